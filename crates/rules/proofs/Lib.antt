@@ -1,0 +1,5 @@
+pub mod Bytes
+pub mod Floats
+pub mod KindLaws
+pub mod StampLaws
+pub mod RuleLaws

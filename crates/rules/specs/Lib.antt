@@ -1,0 +1,4 @@
+pub mod Fnv
+pub mod Meaning
+pub mod Kinds
+pub mod Stamps
