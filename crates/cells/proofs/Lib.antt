@@ -1,0 +1,11 @@
+pub mod Tidy
+pub mod Layouts
+pub mod Sounds
+pub mod Paths
+pub mod Searches
+pub mod Moves
+pub mod Changes
+pub mod Swaps
+pub mod Focuses
+pub mod Edits
+pub mod Props

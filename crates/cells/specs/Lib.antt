@@ -1,0 +1,3 @@
+pub mod Heads
+pub mod Layout
+pub mod Children
