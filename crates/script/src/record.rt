@@ -9,6 +9,7 @@ pub const SIZE: usize = 80;
 
 /// The most bytes of a record's name, and the most positions of its path.
 const NAME: u8 = 32;
+
 const PATH: u8 = 15;
 
 /// A record as it stands: which call, its slots, and the other arguments, read where the call needs them.
