@@ -7,7 +7,7 @@ use Rattle.std.specs.declared.option.Option.the-variants.{Some}
 use Rattle.trees.specs.Name.{Name}
 use Rattle.trees.specs.Tree.{Tree, node, Forest, empty, more, count, size, at}
 use Rattle.trees.specs.Place.{find, change-at, change-in, change-children, label-at}
-use Rattle.cells.specs.Layout.{kids, before, far, label-in, cell-of}
+use Rattle.cells.specs.Layout.{kids, before, far, label-in, cell-of, with-count}
 use Rattle.cells.specs.declared.types.Cell.{Cell}
 use Rattle.cells.proofs.Paths.{stepped}
 
@@ -87,10 +87,6 @@ change-twice g k (i ∷ path) (node h f) = ap (node h) (change-at-twice (change-
 -- a node whose children are changed
 pub kids-changed : (k : Forest → Forest) (u : Tree) → kids (change-children k u) ≡ k (kids u)
 kids-changed k (node h f) = refl
-
--- a cell with another number of children
-abbrev pub with-count : Cell → ℕ → Cell
-with-count x n = record { label = x .label; head = x .head; children = n }
 
 pub cell-changed : (k : Forest → Forest) (l : Name) (u : Tree) → cell-of l (change-children k u) ≡ with-count (cell-of l u) (count (k (kids u)))
 cell-changed k l (node h f) = refl

@@ -10,7 +10,8 @@ use Rattle.trees.specs.Apply.{put}
 use Rattle.trees.specs.Place.{find, change-in, change-children, add-last, insert-under, add-at, take-at, position-from, label-at}
 use Rattle.cells.specs.Layout.{encode, encodes, cell-of, kids}
 use Rattle.cells.proofs.Layouts.{cell-count}
-use Rattle.cells.proofs.Changes.{find-change, change-local, change-twice, kids-changed, with-count, cell-changed}
+use Rattle.cells.proofs.Changes.{find-change, change-local, change-twice, kids-changed, cell-changed}
+use Rattle.cells.specs.Layout.{with-count}
 use Rattle.cells.proofs.Swaps.{Swap, swap-all, swap-add-at, swap-add-last, swap-take-at, swap-insert-old, swap-insert-new, Placed, insert-old}
 use Rattle.cells.proofs.Focuses.{Replaced, replaced, replaced-kids}
 

@@ -13,7 +13,7 @@ use Rattle.trees.specs.Name.{Name}
 use Rattle.trees.specs.Tree.{Tree, node, Forest, empty, more, count, size, sizes, at}
 use Rattle.trees.specs.Place.{find, change-at, change-in, change-children, label-at}
 use Rattle.cells.specs.Heads.{head-value}
-use Rattle.cells.specs.Layout.{encode, encodes, cell-of, kids, Lies, before, far, label-in}
+use Rattle.cells.specs.Layout.{encode, encodes, cell-of, kids, Lies, before, far, label-in, with-label}
 use Rattle.cells.specs.declared.types.Cell.{Cell}
 use Rattle.cells.proofs.Layouts.{length-encode, lies-kids, lie-at, before-first, first-cell}
 use Rattle.cells.proofs.Paths.{stepped, far-step}
@@ -136,10 +136,6 @@ replaced g path l t {u} u′ {i} {old} {new} e k s =
 pub replaced-kids : (k : Forest → Forest) (path : List ℕ) (l : Name) (t : Tree) {u : Tree} {i : ℕ} {old new : List Cell} → find (Some t) path ≡ Some u → Swap (kids u) (k (kids u)) i old new → Replaced path l t (change-in path (change-children k) t) u (change-children k u) i old new
 replaced-kids k path l t {u} {i} {old} {new} e s =
     replaced (change-children k) path l t (change-children k u) e refl (subst (λ f. Swap (kids u) f i old new) (sym (kids-changed k u)) s)
-
--- a cell with another label
-abbrev pub with-label : Cell → Name → Cell
-with-label x l = record { label = spelled l; head = x .head; children = x .children }
 
 -- a tree's first cell is written with another label
 pub relabelled : (m : Name) (xs : List Cell) (pos : ℕ) (l : Name) (t : Tree) (rest : List Cell) (d : Cell) → pos < length xs → drop pos xs ≡ encode l t ++ rest → drop pos (set xs pos (with-label (getD xs pos d) m)) ≡ encode m t ++ rest

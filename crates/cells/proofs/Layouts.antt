@@ -12,7 +12,7 @@ use Rattle.names.specs.Names.{spelled}
 use Rattle.trees.specs.Name.{Name}
 use Rattle.trees.specs.Tree.{Head, Tree, node, Forest, empty, more, count, size, sizes, height, heights, at, variant-name}
 use Rattle.cells.specs.Heads.{head-value, meant}
-use Rattle.cells.specs.Layout.{encode, encodes, cell-of, kids, Lies, LieAll, before, tidy-name, tidy, tidy-all}
+use Rattle.cells.specs.Layout.{encode, encodes, cell-of, kids, Lies, LieAll, before, tidy-name, tidy, tidy-all, root}
 use Rattle.cells.specs.declared.types.Cell.{Cell}
 use Rattle.cells.proofs.Tidy.{spelled-one, head-one, meant-head}
 
@@ -121,10 +121,6 @@ cell-count l (node h f) = refl
 
 pub cell-label : (l : Name) (t : Tree) → cell-of l t .label ≡ spelled l
 cell-label l (node h f) = refl
-
--- what a node is, but for its children
-abbrev pub root : Tree → Head
-root (node h f) = h
 
 pub cell-head : (l : Name) (t : Tree) → tidy t ≡ true → meant (cell-of l t .head) ≡ root t
 cell-head l (node h f) e = meant-head h (and-parts (tidy-name (variant-name h)) (tidy-all f) e .0)

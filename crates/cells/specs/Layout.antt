@@ -8,7 +8,7 @@ use Rattle.std.specs.declared.option.Option.{Option}
 use Rattle.std.specs.declared.option.Option.the-variants.{Some, None}
 use Rattle.names.specs.Names.{good-name, spelled}
 use Rattle.trees.specs.Name.{Name}
-use Rattle.trees.specs.Tree.{Tree, node, Forest, empty, more, count, size, sizes, at, variant-name}
+use Rattle.trees.specs.Tree.{Head, Tree, node, Forest, empty, more, count, size, sizes, at, variant-name}
 use Rattle.trees.specs.Place.{label-at}
 use Rattle.cells.specs.Heads.{head-value}
 use Rattle.cells.specs.declared.types.Cell.{Cell}
@@ -17,6 +17,10 @@ use Rattle.cells.specs.declared.types.Head.the-variants as value
 -- the children of a node
 abbrev pub kids : Tree → Forest
 kids (node h f) = f
+
+-- what a node is, but for its children
+abbrev pub root : Tree → Head
+root (node h f) = h
 
 -- the cell of a node that is held under a label, empty where it has none
 abbrev pub cell-of : Name → Tree → Cell
@@ -87,3 +91,11 @@ abbrev pub label-in : Name → Option Tree → List ℕ → Name
 label-in l o [] = l
 label-in l None (i ∷ path) = l
 label-in l (Some (node h f)) (i ∷ path) = label-in (label-at i f) (at i f) path
+
+-- a cell with another number of children
+abbrev pub with-count : Cell → ℕ → Cell
+with-count x n = record { label = x .label; head = x .head; children = n }
+
+-- a cell with another label
+abbrev pub with-label : Cell → Name → Cell
+with-label x l = record { label = spelled l; head = x .head; children = x .children }
