@@ -54,21 +54,25 @@ path-of r = take (r .«path_len») (r .path)
 abbrev pub own-row : List ℕ
 own-row = replicate 15 0
 
--- the call that a record asks for, by the number of the call
-abbrev pub call-of : Record → Call
-call-of r =
-    cond (eqb (r .call) 1) (new-leaf (r .slot) (r .tag) (r .value))
-    (cond (eqb (r .call) 2) (new-node (r .slot) (r .code) (name-of r) (r .index))
-    (cond (eqb (r .call) 3) (insert (r .slot) (path-of r) (r .second) (name-of r))
-    (cond (eqb (r .call) 4) (push (r .slot) (path-of r) (r .second))
-    (cond (eqb (r .call) 5) (put-at (r .slot) (path-of r) (r .second) (r .index))
-    (cond (eqb (r .call) 6) (remove-at (r .slot) (path-of r) (r .second) (r .index))
-    (cond (eqb (r .call) 7) (set-variant (r .slot) (path-of r) (r .code) (name-of r) (r .index))
-    (cond (eqb (r .call) 8) (copy (r .slot) (r .second))
-    (cond (eqb (r .call) 9) (drop-tree (r .slot))
-    (cond (eqb (r .call) 10) (lay (r .slot) (r .second) own-row)
-    (cond (eqb (r .call) 11) (lay-whole (r .slot) (r .second) own-row)
-    (cond (eqb (r .call) 12) (ask-equal (r .slot) (r .second))
-    (cond (eqb (r .call) 13) (ask-compare (r .slot) (r .second))
-    (cond (eqb (r .call) 14) (ask-hash (r .slot))
+-- the call of a number, with the arguments of a record
+abbrev pub call-by : ℕ → Record → Call
+call-by n r =
+    cond (eqb n 1) (new-leaf (r .slot) (r .tag) (r .value))
+    (cond (eqb n 2) (new-node (r .slot) (r .code) (name-of r) (r .index))
+    (cond (eqb n 3) (insert (r .slot) (path-of r) (r .second) (name-of r))
+    (cond (eqb n 4) (push (r .slot) (path-of r) (r .second))
+    (cond (eqb n 5) (put-at (r .slot) (path-of r) (r .second) (r .index))
+    (cond (eqb n 6) (remove-at (r .slot) (path-of r) (r .second) (r .index))
+    (cond (eqb n 7) (set-variant (r .slot) (path-of r) (r .code) (name-of r) (r .index))
+    (cond (eqb n 8) (copy (r .slot) (r .second))
+    (cond (eqb n 9) (drop-tree (r .slot))
+    (cond (eqb n 10) (lay (r .slot) (r .second) own-row)
+    (cond (eqb n 11) (lay-whole (r .slot) (r .second) own-row)
+    (cond (eqb n 12) (ask-equal (r .slot) (r .second))
+    (cond (eqb n 13) (ask-compare (r .slot) (r .second))
+    (cond (eqb n 14) (ask-hash (r .slot))
     (index-of (r .slot) (path-of r) (name-of r)))))))))))))))
+
+-- the call that a record asks for; a fit record has no number but 1 to 15
+abbrev pub call-of : Record → Call
+call-of r = call-by (r .call) r

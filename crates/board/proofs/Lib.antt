@@ -1,0 +1,10 @@
+pub mod Runs
+pub mod Outcomes
+pub mod Saves
+pub mod Spots
+pub mod Trades
+pub mod Labels
+pub mod Takes
+pub mod Shown
+pub mod Known
+pub mod Asks

@@ -1,0 +1,6 @@
+pub mod Answers
+pub mod Holds
+pub mod Stops
+pub mod Places
+pub mod Looks
+pub mod Questions

@@ -1,0 +1,11 @@
+pub mod Ontos
+pub mod Copies
+pub mod Bounds
+pub mod Zippers
+pub mod Spots
+pub mod Mannered
+pub mod Meetings
+pub mod Nexts
+pub mod Ranks
+pub mod Ways
+pub mod Outcomes

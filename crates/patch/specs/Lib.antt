@@ -1,0 +1,4 @@
+pub mod Manners
+pub mod Edits
+pub mod Walk
+pub mod Outcome

@@ -1,0 +1,10 @@
+pub mod Stacks
+pub mod Walks
+pub mod Made
+pub mod HashWalks
+pub mod HeadLaws
+pub mod Rows
+pub mod Scans
+pub mod EqualWalks
+pub mod Orders
+pub mod CompareWalks
