@@ -8,3 +8,7 @@ pub mod Takes
 pub mod Shown
 pub mod Known
 pub mod Asks
+pub mod Overlays
+pub mod Faults
+pub mod Stopped
+pub mod Wholes

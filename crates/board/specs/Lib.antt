@@ -4,3 +4,4 @@ pub mod Stops
 pub mod Places
 pub mod Looks
 pub mod Questions
+pub mod Patching

@@ -6,6 +6,7 @@ mod wrap;
 
 pub use board::Look;
 pub use board::Mark;
+pub use board::Stop;
 pub use derived::is_variant;
 pub use derived::pop;
 pub use derived::to_dynamic;

@@ -6,6 +6,7 @@ use board::Inner;
 pub(crate) mod building;
 pub(crate) mod calls;
 pub(crate) mod marks;
+pub(crate) mod patching;
 pub(crate) mod questions;
 pub(crate) mod reads;
 
