@@ -54,6 +54,14 @@ path-of r = take (r .«path_len») (r .path)
 abbrev pub own-row : List ℕ
 own-row = replicate 15 0
 
+-- the questions 12 to 15
+abbrev pub ask-by : ℕ → Record → Call
+ask-by n r =
+    cond (eqb n 12) (ask-equal (r .slot) (r .second))
+    (cond (eqb n 13) (ask-compare (r .slot) (r .second))
+    (cond (eqb n 14) (ask-hash (r .slot))
+    (index-of (r .slot) (path-of r) (name-of r))))
+
 -- the call of a number, with the arguments of a record
 abbrev pub call-by : ℕ → Record → Call
 call-by n r =
@@ -68,10 +76,7 @@ call-by n r =
     (cond (eqb n 9) (drop-tree (r .slot))
     (cond (eqb n 10) (lay (r .slot) (r .second) own-row)
     (cond (eqb n 11) (lay-whole (r .slot) (r .second) own-row)
-    (cond (eqb n 12) (ask-equal (r .slot) (r .second))
-    (cond (eqb n 13) (ask-compare (r .slot) (r .second))
-    (cond (eqb n 14) (ask-hash (r .slot))
-    (index-of (r .slot) (path-of r) (name-of r)))))))))))))))
+    (ask-by n r)))))))))))
 
 -- the call that a record asks for; a fit record has no number but 1 to 15
 abbrev pub call-of : Record → Call
