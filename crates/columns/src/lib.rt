@@ -1,5 +1,8 @@
 //! The two columns of a release compare: symbols declared and symbols found, row by row. Each row is
-//! judged by a leaf rule, and the rows that agree, differ or cannot be compared are counted.
+//! judged by a leaf rule, and the rows that agree, differ or cannot be compared are counted; two whole trees are
+//! compared under the release rule.
+pub mod release;
+
 ghost use mathlib.Core.Path.{_≡_};
 ghost use mathlib.Core.List.{map};
 ghost use Prim.Native.Nat.{_+_, _<_, _^_};

@@ -15,6 +15,10 @@ use std::alloc::Global;
 use std::alloc::Refused;
 use std::error::Error;
 use std::fmt;
+use trees::codes::Refusal;
+
+/// The most rows of a file: two trees of so many fields fit on the shelf.
+pub const MOST_ROWS: usize = 2047;
 
 /// A row file as read.
 #[derive(Drop)]
@@ -40,7 +44,17 @@ pub enum Want {
 pub enum Fault {
     Line(usize, Want),
     NoStamp,
+    /// A line past the most rows.
+    Rows(usize),
+    /// A call on the shelf, by the number of its refusal.
+    Shelf(u8),
     Memory,
+}
+
+pub impl From<Refusal> for Fault as FaultFromRefusal {
+    fn from(refusal: Refusal) -> Fault {
+        Fault::Shelf(refusal.number())
+    }
 }
 
 pub impl From<AllocError> for Fault as FaultFromAllocError {
@@ -80,6 +94,8 @@ pub impl fmt::Display for Fault as FaultDisplay {
                 f,
                 "no line: expected the word stamp and a tag from 0 to 65535"
             ),
+            Fault::Rows(line) => write!(f, "line {line}: expected at most {MOST_ROWS} rows"),
+            Fault::Shelf(number) => write!(f, "the shelf refused a call with {number}"),
             Fault::Memory => write!(f, "no memory"),
         }
     }
@@ -178,6 +194,9 @@ pub fn read(heap: Global, text: &str) -> Result<Sheet, Fault> {
                 Err(want) => return Err(Fault::Line(number, want)),
             }
         } else {
+            if rows.len() == MOST_ROWS {
+                return Err(Fault::Rows(number));
+            }
             match read_row(line) {
                 Ok(row) => rows.push(row)?,
                 Err(want) => return Err(Fault::Line(number, want)),
@@ -269,5 +288,22 @@ mod tests {
         check_eq(row.declared.value, 255)?;
         check_eq(row.found.value, 18446744073709551615)?;
         check_eq(row.name.len(), 32)
+    }
+
+    #[test]
+    fn most_rows(rt: LibcRuntime) -> Result<(), Fail> {
+        let mut text = String::new(rt.alloc());
+        text.push_str("stamp 3\n")?;
+        for _ in 0..MOST_ROWS {
+            text.push_str("m 1:1 1:1\n")?;
+        }
+        check(read(rt.alloc(), text.as_str())?.rows.len() == MOST_ROWS)?;
+        text.push_str("m 1:1 1:1\n")?;
+        match read(rt.alloc(), text.as_str()) {
+            Ok(_) => Err(Fail::new("too many rows were accepted")),
+            Err(fault) => check(
+                fault.to_string(rt.alloc())?.as_str() == "line 2049: expected at most 2047 rows",
+            ),
+        }
     }
 }

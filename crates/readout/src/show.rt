@@ -1,7 +1,9 @@
 //! How rows are printed.
 use columns::Row;
 use columns::Verdict;
+use columns::release::Release;
 use rules::leaf::Leaf;
+use std::cmp::Ordering;
 use std::fmt;
 use std::io;
 
@@ -33,4 +35,30 @@ pub fn print_row(rt: &LibcRuntime, row: &Row, verdict: Verdict) -> io::Result<()
     let answer = word(verdict);
     let name = std::str::from_utf8(row.name.bytes()).unwrap_or("");
     println!(rt, "{declared} {found} {name} {answer}")
+}
+
+/// The word of an equality.
+pub fn equality(equal: Option<bool>) -> &'static str {
+    match equal {
+        None => "none",
+        Some(true) => "true",
+        Some(false) => "false",
+    }
+}
+
+/// The word of an order.
+pub fn ordering(order: Option<Ordering>) -> &'static str {
+    match order {
+        None => "none",
+        Some(Ordering::Less) => "less",
+        Some(Ordering::Equal) => "equal",
+        Some(Ordering::Greater) => "greater",
+    }
+}
+
+/// Prints how the two columns compare as wholes.
+pub fn print_whole(rt: &LibcRuntime, whole: Release) -> io::Result<()> {
+    let equal = equality(whole.equal);
+    let order = ordering(whole.order);
+    println!(rt, "whole: equal {equal}, order {order}")
 }
