@@ -1,5 +1,6 @@
 //! Times of a shelf's calls, on standard error, in nanoseconds for each node of a tree. Two equal trees fill the
 //! shelf. On standard output it says whether all answers were the right ones.
+mod patches;
 mod shapes;
 mod times;
 
@@ -34,6 +35,7 @@ fn on(rt: &LibcRuntime, cells: usize) -> io::Result<bool> {
 fn main(rt: LibcRuntime) -> io::Result<()> {
     let small = on(&rt, 256)?;
     let large = on(&rt, 4096)?;
-    let right = small && large;
+    let patched = patches::patching(&rt)?;
+    let right = small && large && patched;
     println!(rt, "all answers right: {right}")
 }

@@ -10,7 +10,7 @@ use std::io;
 use std::time::Instant;
 
 /// The nanoseconds since a start, for each of so many nodes.
-fn each(rt: &LibcRuntime, start: Instant, nodes: usize) -> io::Result<u128> {
+pub fn each(rt: &LibcRuntime, start: Instant, nodes: usize) -> io::Result<u128> {
     let spent = start.elapsed(rt)?;
     Ok(spent.as_nanos().checked_div(nodes as u128).unwrap_or(0))
 }
