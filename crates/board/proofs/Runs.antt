@@ -1,5 +1,5 @@
 -- The cells of the slots, and what a shelf shows after a change of one slot or of the free cells.
-use Rattle.std.proofs.Common.{◌≡◌, ℕ, zero, suc, ◌+◌, ◌<◌, ◌≤◌, List, [], ◌∷◌, ◌++◌, map, length, get_or, take, drop, set, Some, None, sum_by, sum, Option, sym, refl, ap, ◌∙◌, subst, append_assoc, arith, length-append, length-set, take_all, take_at, drop_at, Bor}
+use Rattle.std.proofs.Common.{◌≡◌, ℕ, zero, suc, ◌+◌, ◌<◌, ◌≤◌, List, [], ◌∷◌, ◌++◌, map, length, get_or, take, drop, set, Some, None, sum_by, sum, Option, sym, refl, ap, ◌∙◌, subst, append_assoc, arith, length-append, length-set, take_all, take_at, drop_at, MutBor}
 use lib.ListN.{length-map}
 use lib.Seq.{set_at, set-get_or, map-set}
 use Rattle.std.proofs.lemmas.List.Sums.{sum_by-cons, sum-map}
@@ -123,7 +123,7 @@ pub some_at : {cells : List Cell} {sizes : List ℕ} {m : Slots} → IsLaid cell
 some_at {m} l i h z = nodes_some (slot m i) (omega (arith, size_at l i h))
 
 kept_same : {i : Inner} (i' : Inner) {s : State} → Shows i s → i'.saved ≡ i.saved → i'.saved_sizes ≡ i.saved_sizes → i'.marked ≡ i.marked → IsKept i'.saved.now i'.saved_sizes i'.marked s.capacity s.saved
-kept_same {i} i' {s} h a b m = subst (λ (x : Bor (List Cell)). IsKept x.now i'.saved_sizes i'.marked s.capacity s.saved) (sym a) (subst (λ x. IsKept i.saved.now x i'.marked s.capacity s.saved) (sym b) (subst (λ x. IsKept i.saved.now i.saved_sizes x s.capacity s.saved) (sym m) h.kept))
+kept_same {i} i' {s} h a b m = subst (λ (x : MutBor (List Cell)). IsKept x.now i'.saved_sizes i'.marked s.capacity s.saved) (sym a) (subst (λ x. IsKept i.saved.now x i'.marked s.capacity s.saved) (sym b) (subst (λ x. IsKept i.saved.now i.saved_sizes x s.capacity s.saved) (sym m) h.kept))
 
 -- the state after a change of one slot
 module _ {i i' : Inner} {s : State} (h : Shows i s) (at : ℕ) (o : Option Tree) (rest : List Cell) where
@@ -144,7 +144,7 @@ module _ {i i' : Inner} {s : State} (h : Shows i s) (at : ℕ) (o : Option Tree)
         room = r ∙ h.room;
         fits = f;
         lent = subst (λ k. s.capacity ≤ k) (sym n) h.lent;
-        spare = subst (λ (x : Bor (List Cell)). s.capacity ≤ length x.now) (sym a) h.spare;
+        spare = subst (λ (x : MutBor (List Cell)). s.capacity ≤ length x.now) (sym a) h.spare;
         most = h.most;
         kept = kept_same i' h a b m;
       }
@@ -180,7 +180,7 @@ shows_free {i} {i'} {s} h e n z u r a b m =
       room = r ∙ h.room;
       fits = h.fits;
       lent = subst (λ k. s.capacity ≤ k) (sym n) h.lent;
-      spare = subst (λ (x : Bor (List Cell)). s.capacity ≤ length x.now) (sym a) h.spare;
+      spare = subst (λ (x : MutBor (List Cell)). s.capacity ≤ length x.now) (sym a) h.spare;
       most = h.most;
       kept = kept_same i' h a b m;
     }

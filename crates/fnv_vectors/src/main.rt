@@ -1,4 +1,6 @@
 //! Prints the 64-bit FNV-1a hashes of the published test strings; the expected output is the published table.
+#![tactic(auto)]
+
 use rules::fnv;
 use std::io;
 

@@ -1,5 +1,7 @@
 //! Prints what the rules answer about pairs of leaves that lie at the edges of their definitions; the
 //! expected output was worked out by hand from docs/RULES.md.
+#![tactic(auto)]
+
 use rules::assemblies;
 use rules::leaf::Leaf;
 use rules::number::AddressRule;

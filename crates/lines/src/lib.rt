@@ -1,5 +1,7 @@
 //! What a script gives, as text: a line for each record with its number, the refusal, and the answer as a word or
 //! as 16 hexadecimal digits; the one line `1` for a script that is unfit.
+#![tactic(auto)]
+
 use runs::run_script;
 use script::{answer, record};
 use std::alloc::{AllocError, Global};

@@ -1,6 +1,8 @@
 //! Names of fields and variants: 1 to 32 bytes, each from 33 to 126. There is one value for each name,
 //! its bytes filled up with zeros, so that equal names are equal values. The empty value stands where
 //! a child has no name.
+#![tactic(auto)]
+
 ghost use Rattle.std.specs.Prelude.{◌≡◌, length, IfSome};
 ghost use Rattle.names.specs.Names.{same_name, text, named};
 

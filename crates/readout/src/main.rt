@@ -2,6 +2,8 @@
 //! each row with the answer of the release rule, then how the two columns compare as wholes, and how many rows
 //! agree, differ or cannot be compared.
 //! Nothing is printed on standard output unless every line is understood.
+#![tactic(auto)]
+
 mod rows;
 mod show;
 mod whole;

@@ -1,5 +1,7 @@
 //! Replays the scripts under data/, and holds what each gives to its lines, which an independent model of the same
 //! rules answered (data/ORIGIN.md). A script that differs is named.
+#![tactic(auto)]
+
 use lines::lines;
 use std::fs;
 

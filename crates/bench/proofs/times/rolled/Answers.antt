@@ -9,4 +9,4 @@ pub unreachable-requires : goal.unreachable-requires
 unreachable-requires c =
     rolls any_rule (state c.mark.new.self)
     (opens any_rule (state c.args.shelf.now) (state c.mark.new.self) (ap (λ (a : Answer). a.refusal) (c.in-Ok.ensures.answer any_rule)) (c.in-Ok.ensures.after any_rule))
-    (ap (λ (a : Answer). a.refusal) (c.in-Err-roll-back.ensures.answer any_rule))
+    (ap (λ (a : Answer). a.refusal) (c.in-Err-roll_back.ensures.answer any_rule))

@@ -15,15 +15,15 @@ loop-init t c = (
   omega (arith, size_is c.requires.0),
 )
 
-pub end-of-next-requires : goal.end-of-next-requires
-end-of-next-requires t c =
+pub end_of-next-requires : goal.end_of-next-requires
+end_of-next-requires t c =
     let n = next c.loop.invariant.3 (omega arith) in
     (omega arith, (n.first, n.here, omega arith))
 
 pub loop-preserved : goal.loop-preserved
 loop-preserved t c =
     let n = next c.loop.invariant.3 (omega arith) in
-    let e = c.end-of-next.ensures n.first n.here in (
+    let e = c.end_of-next.ensures n.first n.here in (
       c.loop.invariant.0,
       n.others,
       c.loop.invariant.2,

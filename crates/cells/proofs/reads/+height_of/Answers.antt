@@ -15,22 +15,22 @@ loop-init t c = (
   omega (arith, height_is c.requires.0),
 )
 
-pub height-of-requires : goal.height-of-requires
-height-of-requires t c =
+pub height_of-requires : goal.height_of-requires
+height_of-requires t c =
     let n = next c.loop.invariant.3 (omega arith) in
     (omega arith, (n.first, n.here, omega arith))
 
-pub end-of-pos-requires : goal.end-of-pos-requires
-end-of-pos-requires t c =
+pub end_of-pos-requires : goal.end_of-pos-requires
+end_of-pos-requires t c =
     let n = next c.loop.invariant.3 (omega arith) in
     (n.first, n.here, omega arith)
 
 pub loop-preserved : goal.loop-preserved
 loop-preserved t c =
     let n = next c.loop.invariant.3 (omega arith) in
-    let e = c.end-of-pos.ensures n.first n.here in
-    let h = c.height-of.ensures n.first n.here in
-    let m : c.max-most.result ≡ max c.loop.most c.height-of.result = c.max-most.ensures in (
+    let e = c.end_of-pos.ensures n.first n.here in
+    let h = c.height_of.ensures n.first n.here in
+    let m : c.max-most.result ≡ max c.loop.most c.height_of.result = c.max-most.ensures in (
       c.loop.invariant.0,
       n.others,
       c.loop.invariant.2,

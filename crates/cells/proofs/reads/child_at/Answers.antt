@@ -15,15 +15,15 @@ loop-init c = (
   λ k e. let i : k ≡ c.args.i = omega arith in ap (λ n. c.args.at + 1 + before n (kids c.requires.0)) i,
 )
 
-pub end-of-pos-requires : goal.end-of-pos-requires
-end-of-pos-requires c =
+pub end_of-pos-requires : goal.end_of-pos-requires
+end_of-pos-requires c =
     let n = next c.loop.invariant.3 (omega arith) in
     (n.first, n.here, omega arith)
 
 pub loop-preserved : goal.loop-preserved
 loop-preserved c =
     let n = next c.loop.invariant.3 (omega arith) in
-    let e = c.end-of-pos.ensures n.first n.here in (
+    let e = c.end_of-pos.ensures n.first n.here in (
       c.loop.invariant.0,
       n.others,
       c.loop.invariant.2,

@@ -17,8 +17,8 @@ returns-then-i-cells c t a =
     ap (λ t. find (Some t) c.args.path.now) e ∙ sym c.loop-step.invariant.5 ∙ at_drop_more (λ p. find (Some u) p) c.args.path.now c.loop-step.step-index 0 (omega arith)
     ∙ find_past i _ u (at_past (kids u) i q)
 
-pub child-at-pos-requires : goal.child-at-pos-requires
-child-at-pos-requires c =
+pub child_at-pos-requires : goal.child_at-pos-requires
+child_at-pos-requires c =
     let u = c.loop-step.invariant.1 in
     let i = get_or c.args.path.now c.loop-step.step-index 0 in
     let k = lies_count _ c.loop-step.invariant.3 in
@@ -32,7 +32,7 @@ loop-step-preserved c =
     let k = lies_count _ c.loop-step.invariant.3 in
     let q : i < count (kids u) = subst (λ n. i < n) k c.if-i-cells.false in
     let v = at_there (kids u) i q in
-    let e = c.child-at-pos.ensures u c.loop-step.invariant.3 in
+    let e = c.child_at-pos.ensures u c.loop-step.invariant.3 in
     let p = drop (c.loop-step.step-index + 1) c.args.path.now in
     let l = lie_at (c.loop-step.pos + 1) (kids u) i (lies_kids u c.loop-step.invariant.3) v.1 in
     let d = at_drop_more (λ p. find (Some u) p) c.args.path.now c.loop-step.step-index 0 (omega arith) in

@@ -10,4 +10,4 @@ pub unreachable-requires : goal.unreachable-requires
 unreachable-requires c = clash (ap (λ (a : Answer). a.refusal) (c.in-Err.ensures.answer any_rule)) (ap (λ (o : Outcome). o.answer.refusal) (roll_done any_rule (state c.args.shelf.now) c.requires))
 
 pub returns : goal.returns
-returns c = ap (λ (s : State). s.saved) (c.roll-back.ensures.after any_rule ∙ ap (λ (o : Outcome). o.state) (roll_done any_rule (state c.args.shelf.now) c.requires))
+returns c = ap (λ (s : State). s.saved) (c.roll_back.ensures.after any_rule ∙ ap (λ (o : Outcome). o.state) (roll_done any_rule (state c.args.shelf.now) c.requires))

@@ -3,8 +3,8 @@ use Rattle.names.specs.Names.{before_zero}
 use Rattle.names.proofs.Spellings.{text_front, text_within}
 use Rattle.names.proofs.Name.bytes.Goals as goal
 
-pub slice-bounds-result-end : goal.slice-bounds-result-end
-slice-bounds-result-end c = let w = text_within c.args.self.now.bytes in omega (arith, c.len-len.ensures)
+pub slice_bounds-result-end : goal.slice_bounds-result-end
+slice_bounds-result-end c = let w = text_within c.args.self.now.bytes in omega (arith, c.len-len.ensures)
 
 front : (xs : List ℕ) (n : ℕ) → n ≡ length (before_zero xs) → take (n - 0) xs ≡ before_zero xs
 front xs n e = let z : n - 0 ≡ length (before_zero xs) = omega arith in ap (λ k. take k xs) z ∙ text_front xs

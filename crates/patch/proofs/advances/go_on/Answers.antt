@@ -14,8 +14,8 @@ returns-then-frame-eq0 c =
       falls = done_falls (length c.args.cells.now) c.args.frame _;
     }
 
-pub end-of-next-requires : goal.end-of-next-requires
-end-of-next-requires c =
+pub end_of-next-requires : goal.end_of-next-requires
+end_of-next-requires c =
     let p : 0 < c.args.frame.left = omega (arith, c.if-frame-eq0.false) in
     let s = child_spot c.requires.0 c.requires.1 c.args.frame _ c.args.used c.args.cells.now c.requires.2 c.requires.3 p in
     (_, spot_patch s, s.patch_high)
@@ -29,8 +29,8 @@ partner-requires c =
     let s = child_spot c.requires.0 c.requires.1 c.args.frame _ c.args.used c.args.cells.now c.requires.2 c.requires.3 p in
     (_, _, spot_target s, s.high, spot_patch s)
 
-pub child-at-target-requires : goal.child-at-target-requires
-child-at-target-requires c =
+pub child_at-target-requires : goal.child_at-target-requires
+child_at-target-requires c =
     let p : 0 < c.args.frame.left = omega (arith, c.if-frame-eq0.false) in
     let s = child_spot c.requires.0 c.requires.1 c.args.frame _ c.args.used c.args.cells.now c.requires.2 c.requires.3 p in
     let e = c.in-Some.ensures _ _ (spot_target s) (spot_patch s) in
@@ -41,16 +41,16 @@ extend-requires c =
     let p : 0 < c.args.frame.left = omega (arith, c.if-frame-eq0.false) in
     (_, _, _, _, _, _, _, child_spot c.requires.0 c.requires.1 c.args.frame _ c.args.used c.args.cells.now c.requires.2 c.requires.3 p)
 
-pub returns-in-err-used : goal.returns-in-err-used
-returns-in-err-used c =
+pub returns-in_err-used : goal.returns-in_err-used
+returns-in_err-used c =
     let p : 0 < c.args.frame.left = omega (arith, c.if-frame-eq0.false) in
-    let x = err_from_is_err_and c.from-residual.result c.from-residual.ensures.1 in
+    let x = err_from_is_err_and c.from_residual.result c.from_residual.ensures.1 in
     rw (x.1, x.2) (record {
       comes = λ base l a w.
           let s = child_spot base l c.args.frame _ c.args.used c.args.cells.now a w p in
           let e = c.in-None.ensures _ _ (spot_target s) (spot_patch s) in
           ended_by base l c.args.used c.extend.new.cells _ a c.push.ensures
-          (copy_stops base l c.args.frame _ c.args.used c.args.cells.now a w p _ refl (c.end-of-next.ensures _ (spot_patch s)) (omega arith) (add-one _) refl (sym e) c.in-Extending.is _ _ (c.in-err-used.ensures _ _ _ _ _ _ _ s));
+          (copy_stops base l c.args.frame _ c.args.used c.args.cells.now a w p _ refl (c.end_of-next.ensures _ (spot_patch s)) (omega arith) (add-one _) refl (sym e) c.in-Extending.is _ _ (c.in_err-used.ensures _ _ _ _ _ _ _ s));
       deep = omega (arith, ap length c.push.ensures, way_room c.requires.0 c.requires.1 c.args.frame _ c.args.used c.args.cells.now c.requires.2 c.requires.3 p);
       falls = tt;
     })
@@ -63,33 +63,33 @@ returns-in-Some c =
           let s = child_spot base l c.args.frame _ c.args.used c.args.cells.now a w p in
           let e = c.in-Some.ensures _ _ (spot_target s) (spot_patch s) in
           meets_by base l _ c.args.used c.args.cells.now a c.push.ensures
-          (goes_onto base l c.args.frame _ c.args.used c.args.cells.now a w p _ refl (c.end-of-next.ensures _ (spot_patch s)) (omega arith) (add-one _) refl c.in-Some.j c.child-at-target.result (sym e) (c.child-at-target.ensures _ (spot_target s)));
+          (goes_onto base l c.args.frame _ c.args.used c.args.cells.now a w p _ refl (c.end_of-next.ensures _ (spot_patch s)) (omega arith) (add-one _) refl c.in-Some.j c.child_at-target.result (sym e) (c.child_at-target.ensures _ (spot_target s)));
       deep = tt;
       falls = step_falls (length c.args.cells.now) (record { target = 0; patch = 0 }) c.args.frame _ _ _ c.push.ensures (omega arith);
     }
 
-pub returns-in-ok-used : goal.returns-in-ok-used
-returns-in-ok-used c =
+pub returns-in_ok-used : goal.returns-in_ok-used
+returns-in_ok-used c =
     let p : 0 < c.args.frame.left = omega (arith, c.if-frame-eq0.false) in
     record {
       comes = λ base l a w.
           let s = child_spot base l c.args.frame _ c.args.used c.args.cells.now a w p in
           let e = c.in-None.ensures _ _ (spot_target s) (spot_patch s) in
           goes_by base l _ c.extend.new.cells a c.push.ensures
-          (goes_copied base l c.args.frame _ c.args.used c.args.cells.now a w p _ refl (c.end-of-next.ensures _ (spot_patch s)) (omega arith) (add-one _) refl (sym e) c.in-Extending.is _ _ (c.in-ok-used.ensures _ _ _ _ _ _ _ s));
+          (goes_copied base l c.args.frame _ c.args.used c.args.cells.now a w p _ refl (c.end_of-next.ensures _ (spot_patch s)) (omega arith) (add-one _) refl (sym e) c.in-Extending.is _ _ (c.in_ok-used.ensures _ _ _ _ _ _ _ s));
       deep = tt;
       falls = skip_falls (length c.args.cells.now) c.args.frame _ _ _ c.push.ensures (omega arith);
     }
 
-pub returns-in-default : goal.returns-in-default
-returns-in-default c =
+pub returns-in_default : goal.returns-in_default
+returns-in_default c =
     let p : 0 < c.args.frame.left = omega (arith, c.if-frame-eq0.false) in
     record {
       comes = λ base l a w.
           let s = child_spot base l c.args.frame _ c.args.used c.args.cells.now a w p in
           let e = c.in-None.ensures _ _ (spot_target s) (spot_patch s) in
           goes_by base l c.args.used c.args.cells.now a c.push.ensures
-          (goes_past base l c.args.frame _ c.args.used c.args.cells.now a w p _ refl (c.end-of-next.ensures _ (spot_patch s)) (omega arith) (add-one _) refl (sym e) c.in-default.not-Extending);
+          (goes_past base l c.args.frame _ c.args.used c.args.cells.now a w p _ refl (c.end_of-next.ensures _ (spot_patch s)) (omega arith) (add-one _) refl (sym e) c.in_default.not-Extending);
       deep = tt;
       falls = skip_falls (length c.args.cells.now) c.args.frame _ _ _ c.push.ensures (omega arith);
     }

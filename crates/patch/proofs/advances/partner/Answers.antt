@@ -6,7 +6,7 @@ use Rattle.patch.proofs.Nexts.{partner_there, partner_none}
 use Rattle.patch.proofs.advances.partner.Goals as goal
 
 pub returns-then-index-cells : goal.returns-then-index-cells
-returns-then-index-cells c t u k a = sym (partner_there c.args.frame.pairing a.label (kids t) c.args.frame.index c.in-default.not-ByName c.if-index-cells.true (lies_count _ k))
+returns-then-index-cells c t u k a = sym (partner_there c.args.frame.pairing a.label (kids t) c.args.frame.index c.in_default.not-ByName c.if-index-cells.true (lies_count _ k))
 
 pub returns-in-ByName : goal.returns-in-ByName
 returns-in-ByName c t u k a =
@@ -14,4 +14,4 @@ returns-in-ByName c t u k a =
     ∙ sym (ap (λ m. partner m a.label (kids t) c.args.frame.index) c.in-ByName.is)
 
 pub returns-else-index-cells : goal.returns-else-index-cells
-returns-else-index-cells c t u k a = sym (partner_none c.args.frame.pairing a.label (kids t) c.args.frame.index c.in-default.not-ByName c.if-index-cells.false (lies_count _ k))
+returns-else-index-cells c t u k a = sym (partner_none c.args.frame.pairing a.label (kids t) c.args.frame.index c.in_default.not-ByName c.if-index-cells.false (lies_count _ k))

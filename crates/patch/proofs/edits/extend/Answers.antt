@@ -16,33 +16,33 @@ target_in c = (spot_target c.requires.7).begins
 few : (c : Start) (d : Cell) → (get_or c.args.cells.now c.args.at.target d).children < c.args.used
 few c d = let s = c.requires.7 in omega (arith, lies_count d (spot_target s), count_size (node c.requires.2 c.requires.3), spot_used s)
 
-pub offset-bounds-cells-at : goal.offset-bounds-cells-at
-offset-bounds-cells-at c = let h = target_in (goal.at.offset-bounds-cells-at c).Start in search rules
+pub offset_bounds-cells-at : goal.offset_bounds-cells-at
+offset_bounds-cells-at c = let h = target_in (goal.at.offset_bounds-cells-at c).Start in search rules
 
-pub slice-copy-out·old : goal.slice-copy-out·old
-slice-copy-out·old c = target_in c
+pub slice_copy_out-old : goal.slice_copy_out-old
+slice_copy_out-old c = target_in c
 
-pub overflow-add-cell : goal.overflow-add-cell
-overflow-add-cell c =
-    let n = few (goal.at.overflow-add-cell c).Start in
+pub overflow_add-cell : goal.overflow_add-cell
+overflow_add-cell c =
+    let n = few (goal.at.overflow_add-cell c).Start in
     let h = n (record { label = record { bytes = [] }; head = value.Leaf (record { tag = 0; value = 0 }); children = 0 }) in
     search rules
 
-pub end-of-requires : goal.end-of-requires
-end-of-requires c = (c.requires.4, spot_patch c.requires.7, c.requires.7.patch_high)
+pub end_of-requires : goal.end_of-requires
+end_of-requires c = (c.requires.4, spot_patch c.requires.7, c.requires.7.patch_high)
 
-pub end-of-end-requires : goal.end-of-end-requires
-end-of-end-requires c = (node c.requires.2 c.requires.3, spot_target c.requires.7, c.requires.7.high)
+pub end_of-end-requires : goal.end_of-end-requires
+end_of-end-requires c = (node c.requires.2 c.requires.3, spot_target c.requires.7, c.requires.7.high)
 
 pub renew-requires : goal.renew-requires
 renew-requires c =
     let s = c.requires.7 in
-    (_, _, _, _, _, _, _, _, extend_site s _ _ refl (c.end-of.ensures _ (spot_patch s)) (c.end-of-end.ensures _ (spot_target s)) (c.end-of-end.ensures _ (spot_target s)))
+    (_, _, _, _, _, _, _, _, extend_site s _ _ refl (c.end_of.ensures _ (spot_patch s)) (c.end_of-end.ensures _ (spot_target s)) (c.end_of-end.ensures _ (spot_target s)))
 
 pub returns : goal.returns
 returns c p l h f u q rest s =
-    let e = c.end-of-end.ensures _ (spot_target s) in
-    MatchResult-weaker c.renew.result (c.renew.ensures _ _ _ _ _ _ _ _ (extend_site s _ _ refl (c.end-of.ensures _ (spot_patch s)) e e))
+    let e = c.end_of-end.ensures _ (spot_target s) in
+    MatchResult-weaker c.renew.result (c.renew.ensures _ _ _ _ _ _ _ _ (extend_site s _ _ refl (c.end_of.ensures _ (spot_patch s)) e e))
     (λ n r. extended s (record { at = 0; end = 0 }) (record { at = 0; end = 0 }) _ _ n
     (ap (λ (x : Cell). record { label = x.label; head = x.head; children = x.children + 1 }) (spot_read s _) ∙ ap (λ (x : ℕ). record { label = (cell_of l (node h f)).label; head = (cell_of l (node h f)).head; children = x }) (sym (count-add_last s.patch.label u f))) r)
     (λ e r. refused_by _ (length-encode s.patch.label u) r)

@@ -20,26 +20,26 @@ patch_in c = (spot_patch (spot c.requires.0 c.requires.1 (frames_of c) c.args.at
 deep : (c : Start) → length (frames_of c) ≤ 15
 deep c = room c.requires.0 c.requires.1 (frames_of c) c.args.at c.args.used c.args.cells.now c.requires.2 c.requires.3
 
-pub offset-bounds-cells-at : goal.offset-bounds-cells-at
-offset-bounds-cells-at c = let h = target_in (goal.at.offset-bounds-cells-at c).Start in search rules
+pub offset_bounds-cells-at : goal.offset_bounds-cells-at
+offset_bounds-cells-at c = let h = target_in (goal.at.offset_bounds-cells-at c).Start in search rules
 
-pub slice-copy-out·old : goal.slice-copy-out·old
-slice-copy-out·old c = target_in c
+pub slice_copy_out-old : goal.slice_copy_out-old
+slice_copy_out-old c = target_in c
 
-pub slice-copy-out·new : goal.slice-copy-out·new
-slice-copy-out·new c = patch_in (goal.at.slice-copy-out·new c).Start
+pub slice_copy_out-new : goal.slice_copy_out-new
+slice_copy_out-new c = patch_in (goal.at.slice_copy_out-new c).Start
 
-pub returns-in-err-q : goal.returns-in-err-q
-returns-in-err-q c =
-    let w = err_from_is_err_and c.from-residual.result c.from-residual.ensures.1 in
+pub returns-in_err-q : goal.returns-in_err-q
+returns-in_err-q c =
+    let w = err_from_is_err_and c.from_residual.result c.from_residual.ensures.1 in
     rw (w.1, w.2) (record {
-      comes = λ base l a s. take_stops base l _ c.args.at c.args.used c.args.cells.now a s _ c.in-Leaf.p _ c.in-Leaf.is c.in-err-q.ensures;
-      deep = deep (goal.at.returns-in-err-q c).Start;
+      comes = λ base l a s. take_stops base l _ c.args.at c.args.used c.args.cells.now a s _ c.in-Leaf.p _ c.in-Leaf.is c.in_err-q.ensures;
+      deep = deep (goal.at.returns-in_err-q c).Start;
       falls = met_falls (length c.args.cells.now) c.args.at _ _ refl;
     })
 
-pub offset-bounds-cells-at-in-Leaf : goal.offset-bounds-cells-at-in-Leaf
-offset-bounds-cells-at-in-Leaf c = let h = target_in (goal.at.offset-bounds-cells-at-in-Leaf c).Start in search rules
+pub offset_bounds-cells-at-in-Leaf : goal.offset_bounds-cells-at-in-Leaf
+offset_bounds-cells-at-in-Leaf c = let h = target_in (goal.at.offset_bounds-cells-at-in-Leaf c).Start in search rules
 
 pub bounds-cells-at : goal.bounds-cells-at
 bounds-cells-at c = target_in (goal.at.bounds-cells-at c).Start
@@ -47,17 +47,17 @@ bounds-cells-at c = target_in (goal.at.bounds-cells-at c).Start
 pub returns-in-Leaf : goal.returns-in-Leaf
 returns-in-Leaf c =
     record {
-      comes = λ base l a s. take_done base l _ c.args.at c.args.used c.args.cells.now a s _ c.in-Leaf.p _ c.in-Leaf.is c.in-ok-q.ensures;
+      comes = λ base l a s. take_done base l _ c.args.at c.args.used c.args.cells.now a s _ c.in-Leaf.p _ c.in-Leaf.is c.in_ok-q.ensures;
       deep = tt;
       falls = met_falls (length c.args.cells.now) c.args.at _ _ refl;
     }
 
-pub returns-in-err-same-kind : goal.returns-in-err-same-kind
-returns-in-err-same-kind c =
-    let w = err_from_is_err_and c.from-residual-in-err-same-kind.result c.from-residual-in-err-same-kind.ensures.1 in
+pub returns-in_err-same_kind : goal.returns-in_err-same_kind
+returns-in_err-same_kind c =
+    let w = err_from_is_err_and c.from_residual-in_err-same_kind.result c.from_residual-in_err-same_kind.ensures.1 in
     rw (w.1, w.2) (record {
-      comes = λ base l a s. kinds_ended base l _ c.args.at c.args.used c.args.cells.now a s _ c.in-default.not-Leaf _ c.in-err-same-kind.ensures;
-      deep = deep (goal.at.returns-in-err-same-kind c).Start;
+      comes = λ base l a s. kinds_ended base l _ c.args.at c.args.used c.args.cells.now a s _ c.in_default.not-Leaf _ c.in_err-same_kind.ensures;
+      deep = deep (goal.at.returns-in_err-same_kind c).Start;
       falls = met_falls (length c.args.cells.now) c.args.at _ _ refl;
     })
 
@@ -70,7 +70,7 @@ push-requires c = (omega arith, omega (arith, deep (goal.at.push-requires c).Sta
 pub returns-in-Nothing : goal.returns-in-Nothing
 returns-in-Nothing c =
     record {
-      comes = λ base l a s. nothing_met base l _ c.args.at c.args.used c.args.cells.now a s _ c.in-default.not-Leaf c.in-ok-same-kind.ensures _ c.manner-of.ensures c.in-Nothing.is;
+      comes = λ base l a s. nothing_met base l _ c.args.at c.args.used c.args.cells.now a s _ c.in_default.not-Leaf c.in_ok-same_kind.ensures _ c.manner_of.ensures c.in-Nothing.is;
       deep = tt;
       falls = met_falls (length c.args.cells.now) c.args.at _ _ refl;
     }
@@ -78,7 +78,7 @@ returns-in-Nothing c =
 pub returns-in-Switch : goal.returns-in-Switch
 returns-in-Switch c =
     record {
-      comes = λ base l a s. switch_met base l _ c.args.at c.args.used c.args.cells.now a s _ c.in-default.not-Leaf c.in-ok-same-kind.ensures _ c.manner-of.ensures c.in-Switch.is c.switch.result c.switch.new.cells
+      comes = λ base l a s. switch_met base l _ c.args.at c.args.used c.args.cells.now a s _ c.in_default.not-Leaf c.in_ok-same_kind.ensures _ c.manner_of.ensures c.in-Switch.is c.switch.result c.switch.new.cells
           (c.switch.ensures _ _ _ _ _ _ _ _ (spot base l _ c.args.at c.args.used c.args.cells.now a s));
       deep = of_error c.switch.result (deep (goal.at.returns-in-Switch c).Start);
       falls = met_falls (length c.args.cells.now) c.args.at _ _ refl;
@@ -88,7 +88,7 @@ pub returns-in-Pair : goal.returns-in-Pair
 returns-in-Pair c =
     record {
       comes = λ base l a s. goes_by base l c.args.used c.args.cells.now a c.push.ensures
-          (pair_met base l _ c.args.at c.args.used c.args.cells.now a s _ c.in-default.not-Leaf c.in-ok-same-kind.ensures _ c.manner-of.ensures c.in-Pair.pairing c.in-Pair.is);
+          (pair_met base l _ c.args.at c.args.used c.args.cells.now a s _ c.in_default.not-Leaf c.in_ok-same_kind.ensures _ c.manner_of.ensures c.in-Pair.pairing c.in-Pair.is);
       deep = tt;
       falls = opened_falls (length c.args.cells.now) c.args.at _ _ _ c.push.ensures (few_left c.requires.0 c.requires.1 _ c.args.at c.args.used c.args.cells.now c.requires.2 c.requires.3 _) (deep (goal.at.returns-in-Pair c).Start);
     }

@@ -19,16 +19,16 @@ popped : (c : In-Some) (base : List Cell) (l : List ℕ) (a : Walked Tree) → M
     → Within base l c.in-Some.frame (held c.pop.new.self.frames c.pop.new.self.depth) c.loop-turn.used c.loop-turn.cells a
 popped c base l a s = goes_by base l c.loop-turn.used c.loop-turn.cells a (sym c.in-Some.ensures) (turned base l _ Done c.loop-turn.used c.loop-turn.cells a c.in-Done.is (c.loop-turn.invariant base l a s))
 
-pub returns-in-err-used : goal.returns-in-err-used
-returns-in-err-used c =
-    let w = err_from_is_err_and c.from-residual.result c.from-residual.ensures.1 in
+pub returns-in_err-used : goal.returns-in_err-used
+returns-in_err-used c =
+    let w = err_from_is_err_and c.from_residual.result c.from_residual.ensures.1 in
     rw (w.1, w.2) (record {
-      comes = λ base l a s. c.in-err-used.ensures.comes base l a (met (goal.at.returns-in-err-used c).In-Meet base l a (meets_by base l _ _ _ a c.requires.fresh s));
-      deep = c.in-err-used.ensures.deep;
+      comes = λ base l a s. c.in_err-used.ensures.comes base l a (met (goal.at.returns-in_err-used c).In-Meet base l a (meets_by base l _ _ _ a c.requires.fresh s));
+      deep = c.in_err-used.ensures.deep;
     })
 
 pub loop-turn-preserved-in-Meet : goal.loop-turn-preserved-in-Meet
-loop-turn-preserved-in-Meet c base l a s = c.in-ok-used.ensures.comes base l a (met (goal.at.loop-turn-preserved-in-Meet c).In-Meet base l a s)
+loop-turn-preserved-in-Meet c base l a s = c.in_ok-used.ensures.comes base l a (met (goal.at.loop-turn-preserved-in-Meet c).In-Meet base l a s)
 
 pub returns-in-None : goal.returns-in-None
 returns-in-None c =
@@ -37,18 +37,18 @@ returns-in-None c =
       deep = tt;
     }
 
-pub go-on-requires : goal.go-on-requires
-go-on-requires c =
+pub go_on-requires : goal.go_on-requires
+go_on-requires c =
     let p = c.requires.start in
-    (p.0, p.1, p.2, popped (goal.at.go-on-requires c).In-Some p.0 p.1 p.2 (meets_by p.0 p.1 _ _ _ p.2 c.requires.fresh p.3))
+    (p.0, p.1, p.2, popped (goal.at.go_on-requires c).In-Some p.0 p.1 p.2 (meets_by p.0 p.1 _ _ _ p.2 c.requires.fresh p.3))
 
-pub returns-in-err-next : goal.returns-in-err-next
-returns-in-err-next c =
-    let w = err_from_is_err_and c.from-residual-in-err-next.result c.from-residual-in-err-next.ensures.1 in
+pub returns-in_err-next : goal.returns-in_err-next
+returns-in_err-next c =
+    let w = err_from_is_err_and c.from_residual-in_err-next.result c.from_residual-in_err-next.ensures.1 in
     rw (w.1, w.2) (record {
-      comes = λ base l a s. c.in-err-next.ensures.comes base l a (popped (goal.at.returns-in-err-next c).In-Some base l a (meets_by base l _ _ _ a c.requires.fresh s));
-      deep = c.in-err-next.ensures.deep;
+      comes = λ base l a s. c.in_err-next.ensures.comes base l a (popped (goal.at.returns-in_err-next c).In-Some base l a (meets_by base l _ _ _ a c.requires.fresh s));
+      deep = c.in_err-next.ensures.deep;
     })
 
 pub loop-turn-preserved : goal.loop-turn-preserved
-loop-turn-preserved c base l a s = c.in-ok-next.ensures.comes base l a (popped (goal.at.loop-turn-preserved c).In-Some base l a s)
+loop-turn-preserved c base l a s = c.in_ok-next.ensures.comes base l a (popped (goal.at.loop-turn-preserved c).In-Some base l a s)

@@ -8,7 +8,7 @@ use Rattle.patch.proofs.walk.write_path.Goals as goal
 pub loop-i-preserved : goal.loop-i-preserved
 loop-i-preserved c =
     let H = held c.args.stack.now.frames c.args.stack.now.depth in
-    ap (set c.loop-i.row c.loop-i.i) c.saturating-sub.ensures
+    ap (set c.loop-i.row c.loop-i.i) c.saturating_sub.ensures
     ∙ way_more (reverse H) c.args.row.now c.loop-i.row c.loop-i.i c.at.result c.loop-i.invariant c.at.ensures (omega (arith, length-reverse H, c.len-depth.ensures)) (omega (arith, c.len-depth.ensures, c.requires))
 
 pub returns : goal.returns

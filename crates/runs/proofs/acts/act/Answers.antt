@@ -30,21 +30,21 @@ pub returns-in-5 : goal.returns-in-5
 returns-in-5 g c =
     let m = g.R.LeafRule.means c.args.rule.now in
     let r = c.args.r.now in
-    let d = acted m (state c.args.shelf.now) (ap (λ (p : List ℕ). put_at r.slot p r.second r.index) c.path-in-5.ensures ∙ sym (ap (λ (n : ℕ). call_by n r) c.in-5.is)) (c.put-at.ensures.after m) (c.put-at.ensures.answer m) c.plain-in-5.ensures in
+    let d = acted m (state c.args.shelf.now) (ap (λ (p : List ℕ). put_at r.slot p r.second r.index) c.path-in-5.ensures ∙ sym (ap (λ (n : ℕ). call_by n r) c.in-5.is)) (c.put_at.ensures.after m) (c.put_at.ensures.answer m) c.plain-in-5.ensures in
     record { after = d.0; reply = d.1 }
 
 pub returns-in-6 : goal.returns-in-6
 returns-in-6 g c =
     let m = g.R.LeafRule.means c.args.rule.now in
     let r = c.args.r.now in
-    let d = acted m (state c.args.shelf.now) (ap (λ (p : List ℕ). remove_at r.slot p r.second r.index) c.path-in-6.ensures ∙ sym (ap (λ (n : ℕ). call_by n r) c.in-6.is)) (c.remove-at.ensures.after m) (c.remove-at.ensures.answer m) c.plain-in-6.ensures in
+    let d = acted m (state c.args.shelf.now) (ap (λ (p : List ℕ). remove_at r.slot p r.second r.index) c.path-in-6.ensures ∙ sym (ap (λ (n : ℕ). call_by n r) c.in-6.is)) (c.remove_at.ensures.after m) (c.remove_at.ensures.answer m) c.plain-in-6.ensures in
     record { after = d.0; reply = d.1 }
 
 pub returns-in-7 : goal.returns-in-7
 returns-in-7 g c =
     let m = g.R.LeafRule.means c.args.rule.now in
     let r = c.args.r.now in
-    let d = acted m (state c.args.shelf.now) (ap₂ (λ (p n : List ℕ). set_variant r.slot p r.code n r.index) c.path-in-7.ensures c.name-in-7.ensures ∙ sym (ap (λ (n : ℕ). call_by n r) c.in-7.is)) (c.set-variant.ensures.after m) (c.set-variant.ensures.answer m) c.plain-in-7.ensures in
+    let d = acted m (state c.args.shelf.now) (ap₂ (λ (p n : List ℕ). set_variant r.slot p r.code n r.index) c.path-in-7.ensures c.name-in-7.ensures ∙ sym (ap (λ (n : ℕ). call_by n r) c.in-7.is)) (c.set_variant.ensures.after m) (c.set_variant.ensures.answer m) c.plain-in-7.ensures in
     record { after = d.0; reply = d.1 }
 
 pub returns-in-8 : goal.returns-in-8
@@ -58,7 +58,7 @@ pub returns-in-9 : goal.returns-in-9
 returns-in-9 g c =
     let m = g.R.LeafRule.means c.args.rule.now in
     let r = c.args.r.now in
-    let d = acted m (state c.args.shelf.now) (refl ∙ sym (ap (λ (n : ℕ). call_by n r) c.in-9.is)) (c.drop-tree.ensures.after m) (c.drop-tree.ensures.answer m) c.plain-in-9.ensures in
+    let d = acted m (state c.args.shelf.now) (refl ∙ sym (ap (λ (n : ℕ). call_by n r) c.in-9.is)) (c.drop_tree.ensures.after m) (c.drop_tree.ensures.answer m) c.plain-in-9.ensures in
     record { after = d.0; reply = d.1 }
 
 pub returns-in-10 : goal.returns-in-10
@@ -72,14 +72,14 @@ pub returns-in-11 : goal.returns-in-11
 returns-in-11 g c =
     let m = g.R.LeafRule.means c.args.rule.now in
     let r = c.args.r.now in
-    let d = acted m (state c.args.shelf.now) (sym (ap (λ (n : ℕ). call_by n r) c.in-11.is)) (c.apply-whole.ensures.after m) (c.apply-whole.ensures.answer m) (c.stopped-in-11.ensures _) in
+    let d = acted m (state c.args.shelf.now) (sym (ap (λ (n : ℕ). call_by n r) c.in-11.is)) (c.apply_whole.ensures.after m) (c.apply_whole.ensures.answer m) (c.stopped-in-11.ensures _) in
     record { after = d.0; reply = d.1 }
 
-pub returns-in-default : goal.returns-in-default
-returns-in-default g c =
+pub returns-in_default : goal.returns-in_default
+returns-in_default g c =
     let m = g.R.LeafRule.means c.args.rule.now in
     let r = c.args.r.now in
-    let h = c.in-default in
+    let h = c.in_default in
     let e = asks r.call r (λ z. omega arith) (λ z. omega arith) (λ z. omega arith) (λ z. omega arith) (λ z. omega arith) (λ z. omega arith) (λ z. omega arith) (λ z. omega arith) (λ z. omega arith) (λ z. omega arith) (λ z. omega arith) in
     let d = acted m (state c.args.shelf.now) (sym e) c.ask.ensures.after refl c.ask.ensures.reply in
     record { after = d.0; reply = d.1 }

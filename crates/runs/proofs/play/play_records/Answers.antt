@@ -23,8 +23,8 @@ loop-i-preserved g c =
     c.act-reply.ensures.after ∙ ap₂ (λ t k. (step m t k).state) c.loop-i.invariant.0 called in
     let reply : c.act-reply.result ≡ reply_of (step m before call).answer =
     c.act-reply.ensures.reply ∙ ap₂ (λ t k. reply_of (step m t k).answer) c.loop-i.invariant.0 called in
-    let bytes : c.copy-from-slice.new.self ≡ reply_bytes (reply_of (step m before call).answer) =
-    c.copy-from-slice.ensures.after ∙ c.bytes-bytes.ensures ∙ ap reply_bytes reply in
+    let bytes : c.copy_from_slice.new.self ≡ reply_bytes (reply_of (step m before call).answer) =
+    c.copy_from_slice.ensures.after ∙ c.bytes-bytes.ensures ∙ ap reply_bytes reply in
     let written =
     ap₂ (λ (a b : List ℕ). put_mid (16 * i) (16 * i + 16 - 16 * i) a b) c.loop-i.invariant.1 bytes
     ∙ put_next (said (answers m s (first script i))) _ c.args.answers.now i (bytes_length m s script i (omega (arith, lt))) (length_reply (reply_of (step m before call).answer)) in

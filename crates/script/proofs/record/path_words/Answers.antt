@@ -9,8 +9,8 @@ loop-i-preserved c =
     let f : ℕ → ℕ = λ k. number 2 (50 + 2 * k) c.args.bytes.now in
     let i = c.loop-i.i in
     let path = c.loop-i.path in (
-      length-set path i c.u16-at.result ∙ c.loop-i.invariant.0,
-      λ k h. ap (λ (x : ℕ). get_or (set path i x) k 0) c.u16-at.ensures ∙ fill_by_more f path i 0 (omega arith) c.loop-i.invariant.1 k h,
+      length-set path i c.u16_at.result ∙ c.loop-i.invariant.0,
+      λ k h. ap (λ (x : ℕ). get_or (set path i x) k 0) c.u16_at.ensures ∙ fill_by_more f path i 0 (omega arith) c.loop-i.invariant.1 k h,
     )
 
 pub returns : goal.returns

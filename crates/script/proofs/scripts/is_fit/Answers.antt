@@ -9,12 +9,12 @@ use Rattle.script.proofs.scripts.is_fit.Goals as goal
 now : (script : List ℕ) (i : ℕ) (b : Bool) (r : Record) → i < count script → all_fit (drop i (records script)) ≡ all_fit (records script) → r ≡ record_at script i → b ≡ fit_record r → all_fit (records script) ≡ (b && all_fit (drop (i + 1) (records script)))
 now script i b r h inv e s = sym inv ∙ fit_next script i h ∙ sym (ap (λ (x : Bool). x && all_fit (drop (i + 1) (records script))) (s ∙ ap fit_record e))
 
-pub returns-then-not-is-fit : goal.returns-then-not-is-fit
-returns-then-not-is-fit c =
-    sym (unfit c.args.script.now c.args.room (now c.args.script.now c.loop-i.i false c.read.result c.loop-i-test.true c.loop-i.invariant c.read.ensures c.if-not-is-fit.ensures))
+pub returns-then-not-is_fit : goal.returns-then-not-is_fit
+returns-then-not-is_fit c =
+    sym (unfit c.args.script.now c.args.room (now c.args.script.now c.loop-i.i false c.read.result c.loop-i-test.true c.loop-i.invariant c.read.ensures c.if-not-is_fit.ensures))
 
 pub loop-i-preserved : goal.loop-i-preserved
-loop-i-preserved c = sym (now c.args.script.now c.loop-i.i true c.read.result c.loop-i-test.true c.loop-i.invariant c.read.ensures c.if-not-is-fit.ensures)
+loop-i-preserved c = sym (now c.args.script.now c.loop-i.i true c.read.result c.loop-i-test.true c.loop-i.invariant c.read.ensures c.if-not-is_fit.ensures)
 
 pub returns : goal.returns
 returns c =

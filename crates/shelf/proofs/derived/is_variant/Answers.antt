@@ -13,22 +13,22 @@ use Rattle.shelf.proofs.derived.is_variant.Goals as goal
 abbrev zeros : List ℕ
 zeros = replicate 32 0
 
-pub returns-in-err-look : goal.returns-in-err-look
-returns-in-err-look c =
+pub returns-in_err-look : goal.returns-in_err-look
+returns-in_err-look c =
     let s = state c.args.shelf.now in
     let i = c.args.slot in
     let p = c.args.path.now in
-    let q = err_from_is_err_and c.from-residual.result c.from-residual.ensures.1 in
-    let e = c.in-err-look.field-0.0 in
+    let q = err_from_is_err_and c.from_residual.result c.from_residual.ensures.1 in
+    let e = c.in_err-look.field-0.0 in
     ap (told (λ (b : Bool). truth (Some b)) []) (q.1 ∙ ap Err q.2)
-    ∙ asked_stops s i p c.args.kind e (unseen any_rule s i p zeros c.look.new.row e (omega arith) (c.in-err-look.ensures.answer any_rule))
+    ∙ asked_stops s i p c.args.kind e (unseen any_rule s i p zeros c.look.new.row e (omega arith) (c.in_err-look.ensures.answer any_rule))
 
 pub returns-then-look-lt4 : goal.returns-then-look-lt4
 returns-then-look-lt4 c =
     let s = state c.args.shelf.now in
     let i = c.args.slot in
     let p = c.args.path.now in
-    let w = saw any_rule s i p zeros c.look.new.row c.in-ok-look.look (c.in-ok-look.ensures.answer any_rule) in
+    let w = saw any_rule s i p zeros c.look.new.row c.in_ok-look.look (c.in_ok-look.ensures.answer any_rule) in
     asked_kind s i p c.args.kind w.passed (unfit_root is_enum w.is ∙ ap not (no_enum_by_code (root w.goal) (omega (arith, w.code_is))))
 
 pub returns : goal.returns
@@ -36,7 +36,7 @@ returns c =
     let s = state c.args.shelf.now in
     let i = c.args.slot in
     let p = c.args.path.now in
-    let w = saw any_rule s i p zeros c.look.new.row c.in-ok-look.look (c.in-ok-look.ensures.answer any_rule) in
+    let w = saw any_rule s i p zeros c.look.new.row c.in_ok-look.look (c.in_ok-look.ensures.answer any_rule) in
     let h = root w.goal in
     asked_done s i p c.args.kind _ w.passed (unfit_root is_enum w.is ∙ ap not (enum_by_code h (omega (arith, w.code_is))))
     (ap₂ (λ (x y : ℕ). eqb x (4 + y)) (w.code_is ∙ sym (code_root w.is)) c.number.ensures)

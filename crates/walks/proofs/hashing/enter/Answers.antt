@@ -4,8 +4,8 @@ use Rattle.walks.specs.declared.hashing.HashTurn.TheVariants.{Visit}
 use Rattle.walks.proofs.HashWalks.{within, no_hash, childless, parent, room, stands_by}
 use Rattle.walks.proofs.hashing.enter.Goals as goal
 
-pub offset-bounds-cells-pos : goal.offset-bounds-cells-pos
-offset-bounds-cells-pos g c = let h : c.args.pos < length c.args.cells.now = within c.args.cells.now c.args.pos c.requires.0 c.requires.1 in search rules
+pub offset_bounds-cells-pos : goal.offset_bounds-cells-pos
+offset_bounds-cells-pos g c = let h : c.args.pos < length c.args.cells.now = within c.args.cells.now c.args.pos c.requires.0 c.requires.1 in search rules
 
 pub bounds-cells-pos : goal.bounds-cells-pos
 bounds-cells-pos g c = within c.args.cells.now c.args.pos c.requires.0 c.requires.1

@@ -17,8 +17,8 @@ returns-in-None g c = λ t h.
     let s = turned _ c.args.cells.now c.loop-turn.pos _ _ Visit _ c.in-Visit.is c.loop-turn.invariant.2 in
     sym (c.in-None.ensures.comes (hash _ c.loop-turn.invariant.0) s) ∙ ap (hash (g.R.LeafRule.means c.args.rule.now)) (lies_unique c.loop-turn.invariant.1 h)
 
-pub overflow-add-pos : goal.overflow-add-pos
-overflow-add-pos g c =
+pub overflow_add-pos : goal.overflow_add-pos
+overflow_add-pos g c =
     let s = turned _ c.args.cells.now c.loop-turn.pos _ _ Visit _ c.in-Visit.is c.loop-turn.invariant.2 in
     let h : c.loop-turn.pos < length c.args.cells.now = within c.args.cells.now c.loop-turn.pos _ s in
     search rules

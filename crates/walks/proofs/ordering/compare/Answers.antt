@@ -34,7 +34,7 @@ returns-in-None-pop g c = λ t u lt lu.
     sym (finished _ c.args.cells.now _ c.in-Answered.answer _ (answered g (goal.at.returns-in-None-pop g c).In-Answered) c.in-None-pop.ensures.0)
     ∙ ap₂ (compare (g.R.LeafRule.means c.args.rule.now)) (lies_unique c.loop-turn.invariant.2 lt) (lies_unique c.loop-turn.invariant.3 lu)
 
-pub returns-in-None-by-name : goal.returns-in-None-by-name
-returns-in-None-by-name g c = λ t u lt lu.
-    sym (c.in-None-by-name.ensures.comes (g.R.LeafRule.means c.args.rule.now) _ (popped g (goal.at.returns-in-None-by-name g c).In-Some-pop))
+pub returns-in-None-by_name : goal.returns-in-None-by_name
+returns-in-None-by_name g c = λ t u lt lu.
+    sym (c.in-None-by_name.ensures.comes (g.R.LeafRule.means c.args.rule.now) _ (popped g (goal.at.returns-in-None-by_name g c).In-Some-pop))
     ∙ ap₂ (compare (g.R.LeafRule.means c.args.rule.now)) (lies_unique c.loop-turn.invariant.2 lt) (lies_unique c.loop-turn.invariant.3 lu)

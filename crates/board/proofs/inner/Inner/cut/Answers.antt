@@ -9,8 +9,8 @@ gap-at-requires c =
     let h = c.requires.here in
     record { slot = c.requires.slot; here = at_here h.holds h.there _ (omega (arith, h.many)) }
 
-pub overflow-sub-old : goal.overflow-sub-old
-overflow-sub-old c =
+pub overflow_sub-old : goal.overflow_sub-old
+overflow_sub-old c =
     let h = c.requires.here in
     omega (arith, before_mono (kids h.there.goal) c.args.i c.args.end c.requires.order, c.gap-at.ensures.is _ _ h.holds h.there, c.gap.ensures.is _ _ h.holds h.there)
 

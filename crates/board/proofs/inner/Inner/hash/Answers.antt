@@ -9,7 +9,7 @@ use Rattle.board.proofs.inner.Inner.hash.Goals as goal
 pub hash-requires : goal.hash-requires
 hash-requires g c =
     let h = c.requires.1 in
-    let z = c.in-ok-hold.ensures.tree in
+    let z = c.in_ok-hold.ensures.tree in
     let a = asked h c.args.slot _ z.0 z.1 (c.start-at.ensures.is _ h.shows) in
     (a.tree, a.lies, a.sound)
 
@@ -17,7 +17,7 @@ pub returns : goal.returns
 returns g c s h =
     let m = g.R.LeafRule.means c.args.rule.now in
     let i = c.args.slot in
-    let z = c.in-ok-hold.ensures.tree in
+    let z = c.in_ok-hold.ensures.tree in
     let a = asked h i _ z.0 z.1 (c.start-at.ensures.is s h.shows) in
-    accepts m (ask_hash i) h (c.in-ok-hold.ensures.tries s h).0 h.shows
+    accepts m (ask_hash i) h (c.in_ok-hold.ensures.tries s h).0 h.shows
     (ap (λ x. told number [] (Ok x)) (c.hash.ensures a.tree a.lies ∙ sym (ap (hash_slot m) a.is)))

@@ -17,7 +17,7 @@ returns-in-None c m s h =
     let i = c.args.slot in
     let p = c.args.path.now in
     let n = c.args.name.now in
-    let w = c.in-ok-spot.ensures.stands s h in
+    let w = c.in_ok-spot.ensures.stands s h in
     refuses m (index_of i p n) refusal.Name h (later (standing s i p) (not (good_name n) by refusal.Name ∷ []) refusal.Name w.0 (inl (ap not (named_none n c.in-None.ensures.is), refl))) refl
 
 pub returns-in-Some : goal.returns-in-Some
@@ -25,7 +25,7 @@ returns-in-Some c m s h =
     let i = c.args.slot in
     let p = c.args.path.now in
     let n = c.args.name.now in
-    let w = c.in-ok-spot.ensures.stands s h in
+    let w = c.in_ok-spot.ensures.stands s h in
     let a = w.1 in
     let b = named_some n c.in-Some.label c.in-Some.ensures.is in
     let e = c.field.ensures n s p (sym b.1) (good_tidy n b.0) h a in

@@ -15,8 +15,8 @@ apply-laid-requires c =
     let g = first c.args.target c.args.second r c.start-patch.result c.lift-size.result c.lift-size.ensures.size c.lift-size.ensures.is c.start-patch.ensures.is h t.1 p.1 in
     record { trees = (_, [], t.0, p.0, g.rest, g.begins); lent = r.long }
 
-pub overflow-sub-laid : goal.overflow-sub-laid
-overflow-sub-laid c =
+pub overflow_sub-laid : goal.overflow_sub-laid
+overflow_sub-laid c =
     let h = c.requires.holds.1 in
     let r = c.requires.ready in
     let t = some_at h.shows.lies c.args.target r.target_full.low r.target_full.some in

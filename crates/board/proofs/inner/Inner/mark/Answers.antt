@@ -1,4 +1,4 @@
-use Rattle.std.proofs.Common.{◌≤◌, List, length, sym, refl, ap, ◌∙◌, subst, inl, Bor}
+use Rattle.std.proofs.Common.{◌≤◌, List, length, sym, refl, ap, ◌∙◌, subst, inl, MutBor}
 use Rattle.trees.specs.declared.codes.Refusal.TheVariants as refusal
 use Rattle.trees.specs.Calls.{mark}
 use Rattle.trees.specs.Tests.{is_some}
@@ -20,11 +20,11 @@ returns c m s h =
     let r = c.save.ensures in
     accepts m mark h (ap is_some e, tt)
     (record {
-      lies = subst (λ (x : Bor (List Cell)). IsLaid x.now c.save.new.self.sizes s.slots) (sym r.cells) (subst (λ z. IsLaid c.args.self.now.cells.now z s.slots) (sym r.sizes) k.lies);
+      lies = subst (λ (x : MutBor (List Cell)). IsLaid x.now c.save.new.self.sizes s.slots) (sym r.cells) (subst (λ z. IsLaid c.args.self.now.cells.now z s.slots) (sym r.sizes) k.lies);
       used = r.used ∙ k.used;
       room = r.room ∙ k.room;
       fits = k.fits;
-      lent = subst (λ (x : Bor (List Cell)). s.capacity ≤ length x.now) (sym r.cells) k.lent;
+      lent = subst (λ (x : MutBor (List Cell)). s.capacity ≤ length x.now) (sym r.cells) k.lent;
       spare = subst (λ n. s.capacity ≤ n) (sym r.long) k.spare;
       most = k.most;
       kept = (refl, laid_moved k.lies _ _ _ k.used r.saved, k.fits);

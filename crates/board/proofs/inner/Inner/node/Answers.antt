@@ -25,18 +25,18 @@ returns-then-self-slot-gt0 c m s h =
     let i = c.args.slot in
     refuses m (new_node i c.args.code c.args.name.now c.args.index) refusal.Taken h (inr (le-ltb 15 i (omega arith), inl (is_taken h i (omega arith) (omega arith), refl))) refl
 
-pub returns-in-err-head : goal.returns-in-err-head
-returns-in-err-head c m s h =
+pub returns-in_err-head : goal.returns-in_err-head
+returns-in_err-head c m s h =
     let i = c.args.slot in
     let n = c.args.code in
-    let p = err_from_is_err_and c.from-residual.result c.from-residual.ensures.1 in
+    let p = err_from_is_err_and c.from_residual.result c.from_residual.ensures.1 in
     rw p.1
     (refuses m (new_node i n c.args.name.now c.args.index) p.0 h
     (inr (
       le-ltb 15 i (omega arith),
       inr (
         not_taken h i (omega arith) (omega arith),
-        sooner (head_tests n c.args.name.now) (leb (free_cells s) 0 by refusal.Room ∷ []) p.0 (subst (Stops (head_tests n c.args.name.now)) (sym p.2) c.in-err-head.ensures),
+        sooner (head_tests n c.args.name.now) (leb (free_cells s) 0 by refusal.Room ∷ []) p.0 (subst (Stops (head_tests n c.args.name.now)) (sym p.2) c.in_err-head.ensures),
       ),
     )) refl)
 
@@ -49,7 +49,7 @@ returns-then-self c m s h =
       le-ltb 15 i (omega arith),
       inr (
         not_taken h i (omega arith) (omega arith),
-        later (head_tests n c.args.name.now) (leb (free_cells s) 0 by refusal.Room ∷ []) refusal.Room c.in-ok-head.ensures.0 (inl (le-leb (free_cells s) 0 (omega arith), refl)),
+        later (head_tests n c.args.name.now) (leb (free_cells s) 0 by refusal.Room ∷ []) refusal.Room c.in_ok-head.ensures.0 (inl (le-leb (free_cells s) 0 (omega arith), refl)),
       ),
     )) refl
 
@@ -58,7 +58,7 @@ returns c m s h =
     let i = c.args.slot in
     let n = c.args.code in
     let w = c.args.name.now in
-    let e = c.in-ok-head.ensures in
+    let e = c.in_ok-head.ensures in
     let k = none_at h.shows.lies i (omega arith) (omega arith) in
     accepts m (new_node i n w c.args.index) h (
       le-ltb 15 i (omega arith),

@@ -19,14 +19,14 @@ use Rattle.board.proofs.inner.Inner.put_at.Goals as goal
 abbrev late : State → ℕ → List ℕ → ℕ → ℕ → List Test
 late s i p j n = unfit is_list (node_at s i p) by refusal.Kind ∷ ltb (count (children (node_at s i p))) n by refusal.Index ∷ too_deep s p j by refusal.Depth ∷ []
 
-pub returns-then-not-is-list : goal.returns-then-not-is-list
-returns-then-not-is-list c m s h =
+pub returns-then-not-is_list : goal.returns-then-not-is_list
+returns-then-not-is_list c m s h =
     let i = c.args.slot in
     let j = c.args.second in
     let p = c.args.path.now in
     let n = c.args.index in
-    let w = c.in-ok-spot.ensures.meets s h in
-    let k = at_unfit h w.1.there is_list ∙ ap not (sym c.is-list.ensures ∙ c.if-not-is-list.true) in
+    let w = c.in_ok-spot.ensures.meets s h in
+    let k = at_unfit h w.1.there is_list ∙ ap not (sym c.is_list.ensures ∙ c.if-not-is_list.true) in
     refuses m (put_at i p j n) refusal.Kind h (later (meeting s i p j) (late s i p j n) refusal.Kind w.0 (inl (k, refl))) refl
 
 pub returns-then-index-count : goal.returns-then-index-count
@@ -35,8 +35,8 @@ returns-then-index-count c m s h =
     let j = c.args.second in
     let p = c.args.path.now in
     let n = c.args.index in
-    let w = c.in-ok-spot.ensures.meets s h in
-    let k = at_unfit h w.1.there is_list ∙ ap not (sym c.is-list.ensures ∙ c.if-not-is-list.false) in
+    let w = c.in_ok-spot.ensures.meets s h in
+    let k = at_unfit h w.1.there is_list ∙ ap not (sym c.is_list.ensures ∙ c.if-not-is_list.false) in
     refuses m (put_at i p j n) refusal.Index h
     (later (meeting s i p j) (late s i p j n) refusal.Index w.0 (inr (k, inl (lt-ltb (count (children (node_at s i p))) n (omega (arith, at_number h w.1.there)), refl)))) refl
 
@@ -46,9 +46,9 @@ returns-then-path-tall-gt16 c m s h =
     let j = c.args.second in
     let p = c.args.path.now in
     let n = c.args.index in
-    let w = c.in-ok-spot.ensures.meets s h in
+    let w = c.in_ok-spot.ensures.meets s h in
     let q = w.1 in
-    let k = at_unfit h q.there is_list ∙ ap not (sym c.is-list.ensures ∙ c.if-not-is-list.false) in
+    let k = at_unfit h q.there is_list ∙ ap not (sym c.is_list.ensures ∙ c.if-not-is_list.false) in
     refuses m (put_at i p j n) refusal.Depth h
     (later (meeting s i p j) (late s i p j n) refusal.Depth w.0
     (inr (k, inr (le-ltb (count (children (node_at s i p))) n (omega (arith, at_number h q.there)), inl (is_deep q (omega (arith, c.tall.ensures.is s q.other h q.in_second)), refl))))) refl
@@ -59,19 +59,19 @@ returns c m s h =
     let j = c.args.second in
     let p = c.args.path.now in
     let n = c.args.index in
-    let w = c.in-ok-spot.ensures.meets s h in
+    let w = c.in_ok-spot.ensures.meets s h in
     let q = w.1 in
     let a = q.there in
     let u = q.other in
     let f = kids a.goal in
-    let k = at_unfit h a is_list ∙ ap not (sym c.is-list.ensures ∙ c.if-not-is-list.false) in
+    let k = at_unfit h a is_list ∙ ap not (sym c.is_list.ensures ∙ c.if-not-is_list.false) in
     let o : n ≤ count f = omega (arith, at_count h a) in
     accepts m (put_at i p j n) h
     (both (meeting s i p j) (late s i p j n) w.0
     (k, (le-ltb (count (children (node_at s i p))) n (omega (arith, at_number h a)), (not_deep q (omega (arith, c.tall.ensures.is s u h q.in_second)), tt))))
     (moved_in s i p j (add_at n) a.holds q.in_second
     (c.graft.ensures s p (change_in p (change_children (add_at n u)) a.tree) (change_children (add_at n u) a.goal) u [] [] h a q.in_second refl
-    (c.with-children-cell.ensures ∙ recounted a (add_at n u) _ (omega (arith, count_add_at u f n o, at_count h a)))
+    (c.with_children-cell.ensures ∙ recounted a (add_at n u) _ (omega (arith, count_add_at u f n o, at_count h a)))
     (replaced_kids (add_at n u) p [] a.tree a.reached (swap_add_at u f n o))
     (omega arith)).0)
     refl

@@ -1,4 +1,4 @@
-use Rattle.std.proofs.Common.{◌≤◌, List, length, sym, refl, ap, ◌∙◌, subst, inl, arith, Bor}
+use Rattle.std.proofs.Common.{◌≤◌, List, length, sym, refl, ap, ◌∙◌, subst, inl, arith, MutBor}
 use Rattle.trees.specs.declared.codes.Refusal.TheVariants as refusal
 use Rattle.trees.specs.Calls.{roll_back}
 use Rattle.trees.specs.Tests.{is_none}
@@ -8,8 +8,8 @@ use Rattle.board.proofs.Saves.{kept_none, kept_some, laid_moved, rolled}
 use Rattle.board.proofs.Outcomes.{refuses, accepts}
 use Rattle.board.proofs.inner.Inner.roll_back.Goals as goal
 
-pub start-of-used-requires : goal.start-of-used-requires
-start-of-used-requires c =
+pub start_of-used-requires : goal.start_of-used-requires
+start_of-used-requires c =
     let s = c.requires.0 in
     let k = c.requires.1.shows in
     let v = kept_some _ _ _ s.capacity s.saved k.kept c.if-not-self.false in
@@ -30,7 +30,7 @@ pub returns : goal.returns
 returns c m s h =
     let k = h.shows in
     let v = kept_some _ _ _ s.capacity s.saved k.kept c.if-not-self.false in
-    let n = c.start-of-used.ensures ∙ total_is v.lies in
+    let n = c.start_of-used.ensures ∙ total_is v.lies in
     let r = c.restore.ensures in
     accepts m roll_back h (ap is_none v.is, tt)
     (rolled s v.slots v.is
@@ -40,7 +40,7 @@ returns c m s h =
       room = r.room ∙ k.room;
       fits = v.fits;
       lent = subst (λ n. s.capacity ≤ n) (sym r.long) k.lent;
-      spare = subst (λ (x : Bor (List Cell)). s.capacity ≤ length x.now) (sym r.saved) k.spare;
+      spare = subst (λ (x : MutBor (List Cell)). s.capacity ≤ length x.now) (sym r.saved) k.spare;
       most = k.most;
       kept = refl;
     }))

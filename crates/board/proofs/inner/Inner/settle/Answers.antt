@@ -6,12 +6,12 @@ pub returns-in-Err : goal.returns-in-Err
 returns-in-Err c s h e =
     elim c.if-good.branch [
       | then-good w ↦ rw (w.self-is, w.if-good.true) (kept_open any_rule s (w.keep-ended.ensures any_rule s h) e)
-      | else-good w ↦ rw (w.self-is, w.if-good.false) (rolled_open any_rule s (w.roll-back-ended.ensures any_rule s h) e)
+      | else-good w ↦ rw (w.self-is, w.if-good.false) (rolled_open any_rule s (w.roll_back-ended.ensures any_rule s h) e)
     ]
 
-pub returns-in-default : goal.returns-in-default
-returns-in-default c s h e =
+pub returns-in_default : goal.returns-in_default
+returns-in_default c s h e =
     elim c.if-good.branch [
       | then-good w ↦ rw (w.self-is, w.if-good.true) (kept_open any_rule s (w.keep-ended.ensures any_rule s h) e)
-      | else-good w ↦ rw (w.self-is, w.if-good.false) (rolled_open any_rule s (w.roll-back-ended.ensures any_rule s h) e)
+      | else-good w ↦ rw (w.self-is, w.if-good.false) (rolled_open any_rule s (w.roll_back-ended.ensures any_rule s h) e)
     ]

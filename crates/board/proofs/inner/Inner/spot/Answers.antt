@@ -9,8 +9,8 @@ find-requires c =
     let h = c.requires.holds.1 in
     slot_tree h c.args.slot _ c.requires.slot c.requires.tree (c.start-start.ensures.is _ h.shows)
 
-pub overflow-sub-result : goal.overflow-sub-result
-overflow-sub-result c =
+pub overflow_sub-result : goal.overflow_sub-result
+overflow_sub-result c =
     let h = c.requires.holds.1 in
     let t = some_at h.shows.lies c.args.slot c.requires.slot c.requires.tree in
     let w = c.in-Some.ensures t.0 (slot_lies h c.args.slot _ c.requires.slot t.1 (c.start-start.ensures.is _ h.shows)) in
@@ -27,8 +27,8 @@ below c =
 pub bounds-self-at : goal.bounds-self-at
 bounds-self-at c = (below c).0
 
-pub offset-bounds-self-at : goal.offset-bounds-self-at
-offset-bounds-self-at c = omega (arith, (below c).1)
+pub offset_bounds-self-at : goal.offset_bounds-self-at
+offset_bounds-self-at c = omega (arith, (below c).1)
 
 pub returns-in-Some : goal.returns-in-Some
 returns-in-Some c =

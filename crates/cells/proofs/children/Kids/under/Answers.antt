@@ -29,8 +29,8 @@ returns-then-same c n f e p a =
       lies = m.here;
     }
 
-pub end-of-pos-requires : goal.end-of-pos-requires
-end-of-pos-requires c =
+pub end_of-pos-requires : goal.end_of-pos-requires
+end_of-pos-requires c =
     let m = next c.loop-i.invariant.3 (omega arith) in
     (m.first, m.here, omega arith)
 
@@ -38,7 +38,7 @@ pub loop-i-preserved : goal.loop-i-preserved
 loop-i-preserved c =
     let g = c.loop-i.invariant.1 in
     let m = next c.loop-i.invariant.3 (omega arith) in
-    let e = c.end-of-pos.ensures m.first m.here in (
+    let e = c.end_of-pos.ensures m.first m.here in (
       c.loop-i.invariant.0,
       m.others,
       c.loop-i.invariant.2,

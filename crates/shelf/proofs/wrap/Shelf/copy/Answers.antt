@@ -4,8 +4,8 @@ use Rattle.shelf.proofs.wrap.Shelf.copy.Goals as goal
 pub copy-requires : goal.copy-requires
 copy-requires c = (_, holds c.args.self.now)
 
-pub invariant-of-self : goal.invariant-of-self
-invariant-of-self c = (∣ (_, (c.copy.ensures any_rule _ (holds c.args.self.now)).holds) ∣₁, tt)
+pub invariant_of-self : goal.invariant_of-self
+invariant_of-self c = record { ok = ∣ (_, (c.copy.ensures any_rule _ (holds c.args.self.now)).holds) ∣₁ }
 
 pub returns : goal.returns
 returns c = record { after = λ m. state_is _ (c.copy.ensures m _ (holds c.args.self.now)).holds; answer = λ m. (c.copy.ensures m _ (holds c.args.self.now)).answers }

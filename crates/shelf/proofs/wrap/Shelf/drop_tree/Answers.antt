@@ -1,11 +1,11 @@
 use Rattle.shelf.proofs.States.{state_is, holds, any_rule}
 use Rattle.shelf.proofs.wrap.Shelf.drop_tree.Goals as goal
 
-pub drop-tree-requires : goal.drop-tree-requires
-drop-tree-requires c = (_, holds c.args.self.now)
+pub drop_tree-requires : goal.drop_tree-requires
+drop_tree-requires c = (_, holds c.args.self.now)
 
-pub invariant-of-self : goal.invariant-of-self
-invariant-of-self c = (∣ (_, (c.drop-tree.ensures any_rule _ (holds c.args.self.now)).holds) ∣₁, tt)
+pub invariant_of-self : goal.invariant_of-self
+invariant_of-self c = record { ok = ∣ (_, (c.drop_tree.ensures any_rule _ (holds c.args.self.now)).holds) ∣₁ }
 
 pub returns : goal.returns
-returns c = record { after = λ m. state_is _ (c.drop-tree.ensures m _ (holds c.args.self.now)).holds; answer = λ m. (c.drop-tree.ensures m _ (holds c.args.self.now)).answers }
+returns c = record { after = λ m. state_is _ (c.drop_tree.ensures m _ (holds c.args.self.now)).holds; answer = λ m. (c.drop_tree.ensures m _ (holds c.args.self.now)).answers }

@@ -4,8 +4,8 @@ use Rattle.shelf.proofs.wrap.Shelf.insert.Goals as goal
 pub insert-requires : goal.insert-requires
 insert-requires c = (_, holds c.args.self.now)
 
-pub invariant-of-self : goal.invariant-of-self
-invariant-of-self c = (∣ (_, (c.insert.ensures any_rule _ (holds c.args.self.now)).holds) ∣₁, tt)
+pub invariant_of-self : goal.invariant_of-self
+invariant_of-self c = record { ok = ∣ (_, (c.insert.ensures any_rule _ (holds c.args.self.now)).holds) ∣₁ }
 
 pub returns : goal.returns
 returns c = record { after = λ m. state_is _ (c.insert.ensures m _ (holds c.args.self.now)).holds; answer = λ m. (c.insert.ensures m _ (holds c.args.self.now)).answers }

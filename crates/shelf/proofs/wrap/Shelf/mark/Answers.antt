@@ -4,8 +4,8 @@ use Rattle.shelf.proofs.wrap.Shelf.mark.Goals as goal
 pub mark-requires : goal.mark-requires
 mark-requires c = (_, holds c.args.self.now)
 
-pub invariant-of-self : goal.invariant-of-self
-invariant-of-self c = (∣ (_, (c.mark.ensures any_rule _ (holds c.args.self.now)).holds) ∣₁, tt)
+pub invariant_of-self : goal.invariant_of-self
+invariant_of-self c = record { ok = ∣ (_, (c.mark.ensures any_rule _ (holds c.args.self.now)).holds) ∣₁ }
 
 pub returns : goal.returns
 returns c = record { after = λ m. state_is _ (c.mark.ensures m _ (holds c.args.self.now)).holds; answer = λ m. (c.mark.ensures m _ (holds c.args.self.now)).answers }

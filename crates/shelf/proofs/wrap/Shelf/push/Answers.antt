@@ -4,8 +4,8 @@ use Rattle.shelf.proofs.wrap.Shelf.push.Goals as goal
 pub push-requires : goal.push-requires
 push-requires c = (_, holds c.args.self.now)
 
-pub invariant-of-self : goal.invariant-of-self
-invariant-of-self c = (∣ (_, (c.push.ensures any_rule _ (holds c.args.self.now)).holds) ∣₁, tt)
+pub invariant_of-self : goal.invariant_of-self
+invariant_of-self c = record { ok = ∣ (_, (c.push.ensures any_rule _ (holds c.args.self.now)).holds) ∣₁ }
 
 pub returns : goal.returns
 returns c = record { after = λ m. state_is _ (c.push.ensures m _ (holds c.args.self.now)).holds; answer = λ m. (c.push.ensures m _ (holds c.args.self.now)).answers }

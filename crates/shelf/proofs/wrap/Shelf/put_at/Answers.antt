@@ -1,11 +1,11 @@
 use Rattle.shelf.proofs.States.{state_is, holds, any_rule}
 use Rattle.shelf.proofs.wrap.Shelf.put_at.Goals as goal
 
-pub put-at-requires : goal.put-at-requires
-put-at-requires c = (_, holds c.args.self.now)
+pub put_at-requires : goal.put_at-requires
+put_at-requires c = (_, holds c.args.self.now)
 
-pub invariant-of-self : goal.invariant-of-self
-invariant-of-self c = (∣ (_, (c.put-at.ensures any_rule _ (holds c.args.self.now)).holds) ∣₁, tt)
+pub invariant_of-self : goal.invariant_of-self
+invariant_of-self c = record { ok = ∣ (_, (c.put_at.ensures any_rule _ (holds c.args.self.now)).holds) ∣₁ }
 
 pub returns : goal.returns
-returns c = record { after = λ m. state_is _ (c.put-at.ensures m _ (holds c.args.self.now)).holds; answer = λ m. (c.put-at.ensures m _ (holds c.args.self.now)).answers }
+returns c = record { after = λ m. state_is _ (c.put_at.ensures m _ (holds c.args.self.now)).holds; answer = λ m. (c.put_at.ensures m _ (holds c.args.self.now)).answers }

@@ -2,8 +2,8 @@ use Rattle.std.proofs.Common.{◌≤◌, length, arith}
 use Rattle.walks.proofs.Stacks.{length-held, held_at}
 use Rattle.walks.proofs.stack.Stack.at.Goals as goal
 
-pub offset-bounds-self-i : goal.offset-bounds-self-i
-offset-bounds-self-i g c =
+pub offset_bounds-self-i : goal.offset_bounds-self-i
+offset_bounds-self-i g c =
     let d : c.args.self.now.depth ≤ length c.args.self.now.frames = omega (arith, c.args.self.now.within, c.args.self.now.full) in
     omega (arith, length-held c.args.self.now.frames c.args.self.now.depth d, c.args.self.now.within)
 
