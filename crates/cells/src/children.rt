@@ -37,7 +37,8 @@ impl Kids {
 
     /// The name of the first.
     pub fn label(self, cells: &[Cell]) -> Name
-        requires { (0 < self.count) × (((f : Forest) × IsKept cells.now self f)) }
+        requires some { 0 < self.count }
+        requires kept { (f : Forest) × IsKept cells.now self f }
         ensures { (n : List ℕ) (t : Tree) (f : Forest) → IsKept cells.now self (more n t f) → result ≡ spelled n }
     {
         cells[self.at].label
@@ -45,7 +46,8 @@ impl Kids {
 
     /// Those behind the first.
     pub fn rest(self, cells: &[Cell]) -> Kids
-        requires { (0 < self.count) × (((f : Forest) × IsKept cells.now self f)) }
+        requires some { 0 < self.count }
+        requires kept { (f : Forest) × IsKept cells.now self f }
         ensures counts { result.count + 1 ≡ self.count }
         ensures keeps { (n : List ℕ) (t : Tree) (f : Forest) → IsKept cells.now self (more n t f) → IsKept cells.now result f }
     {

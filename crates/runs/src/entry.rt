@@ -1,4 +1,5 @@
-//! The entry for C: a script and its answers as byte slices, 256 cells, the number rule.
+//! The entry for scripts, which crate `runs_c` exports to C: a script and its answers as byte slices, 256 cells, the
+//! number rule.
 ghost use Rattle.std.specs.Prelude.{◌≡◌, length, if◌then◌else◌};
 ghost use Rattle.rules.specs.Kinds.{numbers};
 ghost use Rattle.trees.specs.State.{opened};
@@ -15,8 +16,7 @@ const CELLS: usize = 256;
 
 /// Plays a script on an empty shelf of 256 cells under the number rule. 0: the answers are written, and what lies
 /// past them stays; 1: the script is unfit or the answers have too little room, and nothing is written.
-#[unsafe(no_mangle)]
-pub extern "C" fn run_script(script: &[u8], answers: &mut [u8]) -> u32
+pub fn run_script(script: &[u8], answers: &mut [u8]) -> u32
     ensures result { result ≡ (if fit script.now (length answers.old) then 0 else 1) }
     ensures bytes { answers.new ≡ (if fit script.now (length answers.old) then answered numbers (opened 256) script.now answers.old else answers.old) }
     ensures laws { AgreeAfterRuns }

@@ -63,7 +63,8 @@ fn joined(a: Ordering, b: Ordering) -> Option<Ordering>
 
 /// Named children, as many on both sides: in order if the names agree at every position.
 fn way_of_names(cells: &[Cell], ours: Kids, theirs: Kids) -> Way
-    requires { (ours.count ≡ theirs.count) × (((f : Forest) × (g : Forest) × IsKept cells.now ours f × IsKept cells.now theirs g)) }
+    requires counts { ours.count ≡ theirs.count }
+    requires kept { (f : Forest) × (g : Forest) × IsKept cells.now ours f × IsKept cells.now theirs g }
     ensures { (f g : Forest) → IsKept cells.now ours f → IsKept cells.now theirs g → result ≡ (if same_order f g then InOrder else ByName Equal) }
 {
     let mut x = ours;
@@ -153,7 +154,8 @@ fn in_order(
     answer: Ordering,
     stack: &mut Stack<OrderFrame>,
 ) -> OrderTurn
-    requires { (frame.way ≡ InOrder) × (((m : Meaning) × (a : Option OrderingOf) × Stands m cells.now (frame ∷ held stack.old.frames stack.old.depth) (Answered answer) a)) }
+    requires way { frame.way ≡ InOrder }
+    requires stands { (m : Meaning) × (a : Option OrderingOf) × Stands m cells.now (frame ∷ held stack.old.frames stack.old.depth) (Answered answer) a }
     ensures comes { (m : Meaning) (a : Option OrderingOf) → Stands m cells.now (frame ∷ held stack.old.frames stack.old.depth) (Answered answer) a → Stands m cells.now (held stack.new.frames stack.new.depth) result a }
     ensures falls { weight (length cells.now) (held stack.new.frames stack.new.depth) result < weight (length cells.now) (frame ∷ held stack.old.frames stack.old.depth) (Answered answer) }
 {
@@ -182,7 +184,8 @@ fn by_name(
     answer: Ordering,
     stack: &mut Stack<OrderFrame>,
 ) -> Option<OrderTurn>
-    requires { (frame.way ≡ ByName seen) × (((m : Meaning) × (a : Option OrderingOf) × Stands m cells.now (frame ∷ held stack.old.frames stack.old.depth) (Answered answer) a)) }
+    requires way { frame.way ≡ ByName seen }
+    requires stands { (m : Meaning) × (a : Option OrderingOf) × Stands m cells.now (frame ∷ held stack.old.frames stack.old.depth) (Answered answer) a }
     ensures comes { (m : Meaning) (a : Option OrderingOf) → Stands m cells.now (frame ∷ held stack.old.frames stack.old.depth) (Answered answer) a → MatchOption result (a ≡ None) (λ turn. Stands m cells.now (held stack.new.frames stack.new.depth) turn a) }
     ensures falls { IfSome result (λ turn. weight (length cells.now) (held stack.new.frames stack.new.depth) turn < weight (length cells.now) (frame ∷ held stack.old.frames stack.old.depth) (Answered answer)) }
 {

@@ -41,8 +41,8 @@ extend-requires c =
     let p : 0 < c.args.frame.left = omega (arith, c.if-frame-eq0.false) in
     (_, _, _, _, _, _, _, child_spot c.requires.0 c.requires.1 c.args.frame _ c.args.used c.args.cells.now c.requires.2 c.requires.3 p)
 
-pub returns-in_err-used : goal.returns-in_err-used
-returns-in_err-used c =
+pub returns-in_err-used-in-Extending : goal.returns-in_err-used-in-Extending
+returns-in_err-used-in-Extending c =
     let p : 0 < c.args.frame.left = omega (arith, c.if-frame-eq0.false) in
     let x = err_from_is_err_and c.from_residual.result c.from_residual.ensures.1 in
     rw (x.1, x.2) (record {
@@ -50,7 +50,7 @@ returns-in_err-used c =
           let s = child_spot base l c.args.frame _ c.args.used c.args.cells.now a w p in
           let e = c.in-None.ensures _ _ (spot_target s) (spot_patch s) in
           ended_by base l c.args.used c.extend.new.cells _ a c.push.ensures
-          (copy_stops base l c.args.frame _ c.args.used c.args.cells.now a w p _ refl (c.end_of-next.ensures _ (spot_patch s)) (omega arith) (add-one _) refl (sym e) c.in-Extending.is _ _ (c.in_err-used.ensures _ _ _ _ _ _ _ s));
+          (copy_stops base l c.args.frame _ c.args.used c.args.cells.now a w p _ refl (c.end_of-next.ensures _ (spot_patch s)) (omega arith) (add-one _) refl (sym e) c.in-Extending.is _ _ (c.in_err-used-in-Extending.ensures _ _ _ _ _ _ _ s));
       deep = omega (arith, ap length c.push.ensures, way_room c.requires.0 c.requires.1 c.args.frame _ c.args.used c.args.cells.now c.requires.2 c.requires.3 p);
       falls = tt;
     })
@@ -68,15 +68,15 @@ returns-in-Some c =
       falls = step_falls (length c.args.cells.now) (record { target = 0; patch = 0 }) c.args.frame _ _ _ c.push.ensures (omega arith);
     }
 
-pub returns-in_ok-used : goal.returns-in_ok-used
-returns-in_ok-used c =
+pub returns-in_ok-used-in-Extending : goal.returns-in_ok-used-in-Extending
+returns-in_ok-used-in-Extending c =
     let p : 0 < c.args.frame.left = omega (arith, c.if-frame-eq0.false) in
     record {
       comes = λ base l a w.
           let s = child_spot base l c.args.frame _ c.args.used c.args.cells.now a w p in
           let e = c.in-None.ensures _ _ (spot_target s) (spot_patch s) in
           goes_by base l _ c.extend.new.cells a c.push.ensures
-          (goes_copied base l c.args.frame _ c.args.used c.args.cells.now a w p _ refl (c.end_of-next.ensures _ (spot_patch s)) (omega arith) (add-one _) refl (sym e) c.in-Extending.is _ _ (c.in_ok-used.ensures _ _ _ _ _ _ _ s));
+          (goes_copied base l c.args.frame _ c.args.used c.args.cells.now a w p _ refl (c.end_of-next.ensures _ (spot_patch s)) (omega arith) (add-one _) refl (sym e) c.in-Extending.is _ _ (c.in_ok-used-in-Extending.ensures _ _ _ _ _ _ _ s));
       deep = tt;
       falls = skip_falls (length c.args.cells.now) c.args.frame _ _ _ c.push.ensures (omega arith);
     }

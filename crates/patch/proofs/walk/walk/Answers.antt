@@ -19,16 +19,21 @@ popped : (c : In-Some) (base : List Cell) (l : List ℕ) (a : Walked Tree) → M
     → Within base l c.in-Some.frame (held c.pop.new.self.frames c.pop.new.self.depth) c.loop-turn.used c.loop-turn.cells a
 popped c base l a s = goes_by base l c.loop-turn.used c.loop-turn.cells a (sym c.in-Some.ensures) (turned base l _ Done c.loop-turn.used c.loop-turn.cells a c.in-Done.is (c.loop-turn.invariant base l a s))
 
-pub returns-in_err-used : goal.returns-in_err-used
-returns-in_err-used c =
+pub meet-requires : goal.meet-requires
+meet-requires c =
+    let p = c.requires.start in
+    (p.0, p.1, p.2, met (goal.at.meet-requires c).In-Meet p.0 p.1 p.2 (meets_by p.0 p.1 _ _ _ p.2 c.requires.fresh p.3))
+
+pub returns-in_err-used-in-Meet : goal.returns-in_err-used-in-Meet
+returns-in_err-used-in-Meet c =
     let w = err_from_is_err_and c.from_residual.result c.from_residual.ensures.1 in
     rw (w.1, w.2) (record {
-      comes = λ base l a s. c.in_err-used.ensures.comes base l a (met (goal.at.returns-in_err-used c).In-Meet base l a (meets_by base l _ _ _ a c.requires.fresh s));
-      deep = c.in_err-used.ensures.deep;
+      comes = λ base l a s. c.in_err-used-in-Meet.ensures.comes base l a (met (goal.at.returns-in_err-used-in-Meet c).In-Meet base l a (meets_by base l _ _ _ a c.requires.fresh s));
+      deep = c.in_err-used-in-Meet.ensures.deep;
     })
 
 pub loop-turn-preserved-in-Meet : goal.loop-turn-preserved-in-Meet
-loop-turn-preserved-in-Meet c base l a s = c.in_ok-used.ensures.comes base l a (met (goal.at.loop-turn-preserved-in-Meet c).In-Meet base l a s)
+loop-turn-preserved-in-Meet c base l a s = c.in_ok-used-in-Meet.ensures.comes base l a (met (goal.at.loop-turn-preserved-in-Meet c).In-Meet base l a s)
 
 pub returns-in-None : goal.returns-in-None
 returns-in-None c =
@@ -42,13 +47,13 @@ go_on-requires c =
     let p = c.requires.start in
     (p.0, p.1, p.2, popped (goal.at.go_on-requires c).In-Some p.0 p.1 p.2 (meets_by p.0 p.1 _ _ _ p.2 c.requires.fresh p.3))
 
-pub returns-in_err-next : goal.returns-in_err-next
-returns-in_err-next c =
-    let w = err_from_is_err_and c.from_residual-in_err-next.result c.from_residual-in_err-next.ensures.1 in
+pub returns-in_err-next-in-Some : goal.returns-in_err-next-in-Some
+returns-in_err-next-in-Some c =
+    let w = err_from_is_err_and c.from_residual-in_err-next-in-Some.result c.from_residual-in_err-next-in-Some.ensures.1 in
     rw (w.1, w.2) (record {
-      comes = λ base l a s. c.in_err-next.ensures.comes base l a (popped (goal.at.returns-in_err-next c).In-Some base l a (meets_by base l _ _ _ a c.requires.fresh s));
-      deep = c.in_err-next.ensures.deep;
+      comes = λ base l a s. c.in_err-next-in-Some.ensures.comes base l a (popped (goal.at.returns-in_err-next-in-Some c).In-Some base l a (meets_by base l _ _ _ a c.requires.fresh s));
+      deep = c.in_err-next-in-Some.ensures.deep;
     })
 
 pub loop-turn-preserved : goal.loop-turn-preserved
-loop-turn-preserved c base l a s = c.in_ok-next.ensures.comes base l a (popped (goal.at.loop-turn-preserved c).In-Some base l a s)
+loop-turn-preserved c base l a s = c.in_ok-next-in-Some.ensures.comes base l a (popped (goal.at.loop-turn-preserved c).In-Some base l a s)

@@ -25,8 +25,9 @@ returns-in-None c =
 pub rest-hint-requires : goal.rest-hint-requires
 rest-hint-requires c =
     let s = c.requires.2 in
-    found_row s.1.f s.1.g s.1.fits.next (omega arith) c.label-name.ensures
-    (λ n e p. c.in-Some.ensures n s.1.f s.1.fits.ahead e p s.1.fits.partners s.1.fits.hint s.1.fits.behind (s.1.fits.apart c.if-frame.true))
+    let found = found_row s.1.f s.1.g s.1.fits.next (omega arith) c.label-name.ensures
+    (λ n e p. c.in-Some.ensures n s.1.f s.1.fits.ahead e p s.1.fits.partners s.1.fits.hint s.1.fits.behind (s.1.fits.apart c.if-frame.true)) in
+    record { some = found.0; kept = found.1 }
 
 pub returns-in-Some : goal.returns-in-Some
 returns-in-Some c =

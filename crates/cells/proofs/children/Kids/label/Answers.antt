@@ -4,7 +4,7 @@ use Rattle.cells.proofs.Searches.{kept_first}
 use Rattle.cells.proofs.children.Kids.label.Goals as goal
 
 pub bounds-cells-self : goal.bounds-cells-self
-bounds-cells-self c = let m = next c.requires.1.1.lies (omega (arith, c.requires.1.1.counted)) in m.here.begins
+bounds-cells-self c = let m = next c.requires.kept.1.lies (omega (arith, c.requires.kept.1.counted)) in m.here.begins
 
 pub returns : goal.returns
 returns c n t f a = kept_first _ a

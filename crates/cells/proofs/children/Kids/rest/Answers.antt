@@ -5,8 +5,8 @@ use Rattle.cells.proofs.children.Kids.rest.Goals as goal
 
 pub end_of-requires : goal.end_of-requires
 end_of-requires c =
-    let m = next c.requires.1.1.lies (omega (arith, c.requires.1.1.counted)) in
-    (m.first, m.here, omega (arith, c.requires.1.1.high))
+    let m = next c.requires.kept.1.lies (omega (arith, c.requires.kept.1.counted)) in
+    (m.first, m.here, omega (arith, c.requires.kept.1.high))
 
 pub returns : goal.returns
 returns c =
