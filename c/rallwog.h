@@ -1,4 +1,4 @@
-/* The entry of the static library of crate runs. */
+/* The entry of the static library, which crate runs_c exports. */
 #ifndef RALLWOG_H
 #define RALLWOG_H
 

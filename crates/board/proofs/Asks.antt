@@ -1,9 +1,7 @@
 -- Trees of slots that are asked about: where they lie, and what the answers are.
-use Rattle.std.proofs.Common.{◌≡◌, ℕ, ◌<◌, ◌≤◌, Bool, true, false, ◌||◌, ◌⊎◌, List, get_or, take, Some, None, sym, refl, ap, ◌∙◌, ap₂, inl, inr, ⊎_elim, arith}
-use Rattle.std.proofs.lemmas.Bool.{le-ltb, or_from}
+use Rattle.std.proofs.Common.{◌≡◌, ℕ, ◌<◌, get_or, take, Some}
 use Rattle.trees.specs.Tree.{Tree, IsSound}
 use Rattle.trees.specs.State.{State, slot, used}
-use Rattle.trees.specs.Tests.{over, vacant}
 use Rattle.cells.specs.Layout.{Lies}
 use Rattle.board.specs.declared.inner.Inner.{Inner}
 use Rattle.board.specs.Holds.{Holds}

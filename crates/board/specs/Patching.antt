@@ -1,5 +1,5 @@
 -- What the calls that lay a patch answer, and the tests that they begin with.
-use Rattle.std.specs.Prelude.{◌≡◌, ◌≢◌, ℕ, ◌≤◌, min, ◌||◌, List, [], ◌∷◌, length, Some, None, Ok, Err, Result, nat_eq}
+use Rattle.std.specs.Prelude.{◌≢◌, ℕ, ◌≤◌, min, ◌||◌, List, [], ◌∷◌, length, Some, None, Ok, Err, Result, nat_eq}
 use Rattle.trees.specs.declared.codes.Refusal.{Refusal}
 use Rattle.trees.specs.declared.codes.Refusal.TheVariants.{Lent, Slot, Empty, Same}
 use Rattle.trees.specs.declared.codes.Refusal.TheVariants as refuse

@@ -4,7 +4,7 @@ use lib.Seq.{drop-append_seam}
 use Rattle.std.proofs.lemmas.Bool.{and_parts}
 use Rattle.names.specs.Names.{spelled}
 use Rattle.trees.specs.Name.{Name}
-use Rattle.trees.specs.Tree.{Head, Tree, node, Forest, empty, more, count, size, sizes, height, heights, at, variant_name}
+use Rattle.trees.specs.Tree.{Tree, node, Forest, empty, more, count, size, sizes, height, heights, at, variant_name}
 use Rattle.cells.specs.Heads.{head_value, meant}
 use Rattle.cells.specs.Layout.{encode, encodes, cell_of, kids, Lies, LieAll, before, tidy_name, tidy, tidy_all, root}
 use Rattle.cells.specs.declared.types.Cell.{Cell}

@@ -1,5 +1,5 @@
 -- The search for a name among children.
-use Rattle.std.proofs.Common.{◌≡◌, ℕ, suc, ◌+◌, true, false, cond, List, ◌++◌, get_or, Some, sym, ap, ◌∙◌, append_assoc}
+use Rattle.std.proofs.Common.{◌≡◌, ℕ, suc, true, false, cond, List, ◌++◌, get_or, Some, sym, ap, ◌∙◌, append_assoc}
 use Rattle.names.specs.declared.Name.{Name as NameValue}
 use Rattle.names.specs.Names.{same_name, spelled}
 use Rattle.trees.specs.Name.{Name}

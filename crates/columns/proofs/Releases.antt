@@ -1,5 +1,5 @@
 -- The release compare: the two questions are refused alike, and the laws hold under the release rule.
-use Rattle.std.proofs.Common.{◌≡◌, ℕ, List, [], Some, None, Err, sym, refl, ap, ◌∙◌}
+use Rattle.std.proofs.Common.{◌≡◌, ℕ, List, [], None, Err, sym, refl, ap}
 use Rattle.rules.specs.Meaning.{Meaning, IsLawful}
 use Rattle.rules.specs.Kinds.{addresses}
 use Rattle.rules.specs.RuleLaws.{addresses_lawful}

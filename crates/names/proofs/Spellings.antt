@@ -1,10 +1,9 @@
 -- The bytes of names: rows that are filled one by one, and the bytes that come back out of a name's value.
-use Rattle.std.proofs.Common.{◌≡◌, ℕ, zero, suc, ◌+◌, ◌-◌, ◌<◌, ◌≤◌, Bool, true, false, cond, ◌&&◌, eqb, leb, List, [], ◌∷◌, ◌++◌, length, get_or, take, drop, set, replicate, IfSome, Some, None, Option, sym, refl, ap, ◌∙◌, append_assoc, add-one, arith, length-take-le}
+use Rattle.std.proofs.Common.{◌≡◌, ℕ, zero, suc, ◌+◌, ◌-◌, ◌<◌, ◌≤◌, Bool, true, false, cond, ◌&&◌, eqb, leb, List, [], ◌∷◌, ◌++◌, length, get_or, take, drop, set, replicate, IfSome, Some, None, sym, refl, ap, ◌∙◌, append_assoc, add-one, arith, length-take-le}
 use lib.Seq.{set_at}
 use Rattle.std.proofs.lemmas.List.{at_drop_more, drop_more, take_more}
 use Rattle.std.proofs.lemmas.Bool.{le-leb, lt-leb, and_parts, leb-true, ne_eqb, eq-eqb, cond-true, cond-false}
-use Rattle.names.specs.declared.Name.{Name}
-use Rattle.names.specs.Names.{same_name, printable, good_name, spelled, named, before_zero, text}
+use Rattle.names.specs.Names.{printable, good_name, spelled, named, before_zero, text}
 
 -- one more element of a front that is copied from another list
 pub front_more : {X : Type 0} (xs ys ws : List X) (i : ℕ) (z : X) → i < length xs → i < length ys → ws ≡ take i xs ++ drop i ys → set ws i (get_or xs i z) ≡ take (i + 1) xs ++ drop (i + 1) ys

@@ -5,11 +5,11 @@ use Rattle.names.specs.Names.{same_name}
 use Rattle.trees.specs.Name.{Name}
 use Rattle.trees.specs.Tree.{Tree, node, Forest, empty, more, count, size, height, heights, each, sound}
 use Rattle.trees.specs.Place.{add_last, label_at, position_from}
-use Rattle.trees.specs.Apply.{Walked, ended, done, stopped, no_room, within_node, apply_within}
+use Rattle.trees.specs.Apply.{Walked, ended, stopped, no_room, within_node, apply_within}
 use Rattle.cells.specs.declared.types.Cell.{Cell}
 use Rattle.cells.specs.Layout.{encode, cell_of, before, tidy, tidy_all, Lies, LieAll}
 use Rattle.cells.proofs.Layouts.{Next, next, none_left, height_pos, at_there, height_at}
-use Rattle.cells.proofs.Swaps.{among, placed}
+use Rattle.cells.proofs.Swaps.{among}
 use Rattle.patch.specs.declared.errors.ApplyError.{ApplyError}
 use Rattle.patch.specs.declared.frames.Frame.{Frame}
 use Rattle.patch.specs.declared.manners.Pairing.{Pairing}

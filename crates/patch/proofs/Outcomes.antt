@@ -2,7 +2,7 @@
 use Rattle.std.proofs.Common.{◌≡◌, ℕ, List, [], ◌++◌, length, drop, Ok, Err, sym, refl, ap, ◌∙◌, arith, length-append}
 use Rattle.trees.specs.Name.{Name}
 use Rattle.trees.specs.Tree.{Tree, node}
-use Rattle.trees.specs.Apply.{Walked, done, stopped, apply}
+use Rattle.trees.specs.Apply.{Walked, stopped, apply}
 use Rattle.cells.specs.declared.types.Cell.{Cell}
 use Rattle.cells.specs.Layout.{encode}
 use Rattle.cells.proofs.Sounds.{sound_tidy}

@@ -10,7 +10,6 @@ use Rattle.trees.specs.Apply.{Walked, Fault, ended, done, stopped, below, field_
 use Rattle.cells.specs.Heads.{head_value}
 use Rattle.cells.specs.declared.types.Cell.{Cell}
 use Rattle.cells.specs.Layout.{encode, tidy, Lies}
-use Rattle.cells.proofs.Layouts.{lies}
 use Rattle.cells.proofs.Changes.{count_change}
 use Rattle.patch.specs.declared.errors.ApplyError.{ApplyError}
 use Rattle.patch.specs.declared.errors.ApplyError.TheVariants.{MismatchedKinds, MismatchedTypes, Room}

@@ -1,5 +1,5 @@
 -- What a record's call comes to.
-use Rattle.std.proofs.Common.{◌≡◌, ℕ, cond, eqb, sym, ap, ◌∙◌}
+use Rattle.std.proofs.Common.{◌≡◌, ℕ, eqb, ap, ◌∙◌}
 use Rattle.std.proofs.lemmas.Bool.{cond-false, ne_eqb}
 use Rattle.rules.specs.Meaning.{Meaning}
 use Rattle.trees.specs.State.{State}

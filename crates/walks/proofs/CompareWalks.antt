@@ -6,7 +6,7 @@ use Rattle.names.specs.Names.{spelled}
 use Rattle.rules.specs.declared.leaf.Leaf.{Leaf}
 use Rattle.rules.specs.Meaning.{Meaning}
 use Rattle.trees.specs.Name.{Name}
-use Rattle.trees.specs.Tree.{Head, leaf, struct, tuple, list, enum, Tree, node, Forest, empty, more, labels, count, named, under, sound}
+use Rattle.trees.specs.Tree.{Head, leaf, struct, tuple, list, enum, Tree, node, Forest, empty, more, labels, named, under, sound}
 use Rattle.trees.specs.Equal.{alike}
 use Rattle.trees.specs.Compare.{while_equal, together, compare_lists, compare_found, compare_by_name, compare_leaf, compare_nodes, compare_within, compare}
 use Rattle.trees.proofs.Fields.{under_ok}

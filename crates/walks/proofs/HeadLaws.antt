@@ -5,7 +5,7 @@ use Rattle.names.specs.Names.{same_name, good_name, spelled}
 use Rattle.rules.specs.declared.leaf.Leaf.{Leaf}
 use Rattle.trees.specs.declared.codes.VariantType.TheVariants.{Unit as unit, Tuple as tuple_like, Struct as struct_like}
 use Rattle.trees.specs.Name.{Name, distinct, all_good}
-use Rattle.trees.specs.Tree.{Head, leaf, struct, tuple, list, enum, Tree, node, count, code, variant_name, named, fits}
+use Rattle.trees.specs.Tree.{Head, leaf, struct, tuple, list, enum, Tree, node, code, variant_name, named, fits}
 use Rattle.trees.specs.Equal.{alike}
 use Rattle.cells.specs.Heads.{head_value}
 use Rattle.cells.specs.Layout.{Lies, root, kids, tidy, tidy_name, tidy_all, cell_of}

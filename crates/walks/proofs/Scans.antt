@@ -4,7 +4,7 @@ use Rattle.std.proofs.lemmas.Bool.{and_parts}
 use Rattle.names.specs.declared.Name.{Name as NameValue}
 use Rattle.names.specs.Names.{same_name, spelled}
 use Rattle.trees.specs.Name.{Name, absent, distinct}
-use Rattle.trees.specs.Tree.{Tree, Forest, empty, more, labels, count, under}
+use Rattle.trees.specs.Tree.{Tree, Forest, empty, more, labels, under}
 use Rattle.trees.specs.Compare.{same_order}
 use Rattle.trees.proofs.Names.{same_name_same, same_name_refl, same_name_comm, absent_head, absent_tail}
 use Rattle.cells.specs.Layout.{tidy_name}

@@ -1,4 +1,4 @@
-use Rattle.std.proofs.Common.{◌≡◌, ℕ, ◌-◌, List, length, take, sym, ap, ◌∙◌, arith}
+use Rattle.std.proofs.Common.{◌≡◌, ℕ, ◌-◌, List, length, take, ap, ◌∙◌, arith}
 use Rattle.names.specs.Names.{before_zero}
 use Rattle.names.proofs.Spellings.{text_front, text_within}
 use Rattle.names.proofs.Name.bytes.Goals as goal

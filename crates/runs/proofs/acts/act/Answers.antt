@@ -1,5 +1,5 @@
-use Rattle.std.proofs.Common.{◌≡◌, ℕ, List, sym, refl, ap, ◌∙◌, ap₂, arith}
-use Rattle.trees.specs.Calls.{Call, new_node, insert, push, put_at, remove_at, set_variant, copy, drop_tree}
+use Rattle.std.proofs.Common.{ℕ, List, sym, refl, ap, ◌∙◌, ap₂, arith}
+use Rattle.trees.specs.Calls.{new_node, insert, push, put_at, remove_at, set_variant}
 use Rattle.shelf.specs.State.{state}
 use Rattle.script.specs.Records.{call_by}
 use Rattle.runs.proofs.Acted.{acted, asks}

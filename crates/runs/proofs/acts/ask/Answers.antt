@@ -1,4 +1,4 @@
-use Rattle.std.proofs.Common.{◌≡◌, ℕ, List, sym, refl, ap, ◌∙◌, ap₂, arith}
+use Rattle.std.proofs.Common.{ℕ, List, sym, ◌∙◌, ap₂, arith}
 use Rattle.trees.specs.Calls.{index_of}
 use Rattle.shelf.specs.State.{state}
 use Rattle.runs.proofs.Acted.{acted, asks_place}

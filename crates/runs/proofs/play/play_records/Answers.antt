@@ -1,11 +1,10 @@
-use Rattle.std.proofs.Common.{◌≡◌, ℕ, ◌+◌, ◌-◌, ◌*◌, ◌/◌, List, ◌++◌, length, drop, sym, refl, ap, ◌∙◌, ap₂, arith}
+use Rattle.std.proofs.Common.{◌≡◌, ℕ, ◌+◌, ◌-◌, ◌*◌, ◌/◌, List, ◌++◌, length, drop, sym, ap, ◌∙◌, ap₂, arith}
 use borrow.Rule.Slice.PartMut.{put_mid}
-use Rattle.trees.specs.State.{State}
 use Rattle.trees.specs.Play.{step, play, answers}
 use Rattle.shelf.specs.State.{state}
 use Rattle.script.specs.Records.{call_of}
 use Rattle.script.specs.Answers.{reply_of, reply_bytes}
-use Rattle.script.specs.Scripts.{said, record_at, count}
+use Rattle.script.specs.Scripts.{said, record_at}
 use Rattle.runs.proofs.Playing.{first, trees_more, bytes_more, bytes_length, first_all, put_next, length_reply}
 use Rattle.runs.proofs.play.play_records.Goals as goal
 

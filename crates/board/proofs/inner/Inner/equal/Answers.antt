@@ -1,9 +1,9 @@
-use Rattle.std.proofs.Common.{◌≡◌, [], Ok, sym, ap, ◌∙◌, ap₂, arith}
+use Rattle.std.proofs.Common.{[], Ok, sym, ap, ◌∙◌, ap₂}
 use Rattle.trees.specs.Calls.{ask_equal, truth}
 use Rattle.trees.specs.Deeds.{equal_slots}
 use Rattle.board.specs.Answers.{told}
-use Rattle.board.proofs.Asks.{Asked, asked}
-use Rattle.board.proofs.Outcomes.{refuses, accepts}
+use Rattle.board.proofs.Asks.{asked}
+use Rattle.board.proofs.Outcomes.{accepts}
 use Rattle.board.proofs.inner.Inner.equal.Goals as goal
 
 pub equal-requires : goal.equal-requires

@@ -1,9 +1,9 @@
-use Rattle.std.proofs.Common.{◌≡◌, [], Ok, sym, ap, ◌∙◌, arith}
+use Rattle.std.proofs.Common.{[], Ok, sym, ap, ◌∙◌}
 use Rattle.trees.specs.Calls.{ask_hash, number}
 use Rattle.trees.specs.Deeds.{hash_slot}
 use Rattle.board.specs.Answers.{told}
-use Rattle.board.proofs.Asks.{Asked, asked}
-use Rattle.board.proofs.Outcomes.{refuses, accepts}
+use Rattle.board.proofs.Asks.{asked}
+use Rattle.board.proofs.Outcomes.{accepts}
 use Rattle.board.proofs.inner.Inner.hash.Goals as goal
 
 pub hash-requires : goal.hash-requires

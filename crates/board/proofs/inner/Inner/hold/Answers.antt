@@ -1,4 +1,4 @@
-use Rattle.std.proofs.Common.{◌≡◌, refl, inl, inr, arith}
+use Rattle.std.proofs.Common.{refl, inl, inr, arith}
 use Rattle.std.proofs.lemmas.Bool.{le-ltb}
 use Rattle.board.proofs.Outcomes.{is_vacant, not_vacant}
 use Rattle.board.proofs.inner.Inner.hold.Goals as goal

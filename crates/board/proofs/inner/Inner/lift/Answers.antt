@@ -1,5 +1,5 @@
 use Rattle.std.proofs.Common.{suc, ◌++◌, take, drop, set, None, sym, refl, ap, ◌∙◌, arith, drop_at}
-use Rattle.trees.specs.State.{slot, used}
+use Rattle.trees.specs.State.{slot}
 use Rattle.board.specs.Holds.{laid, run}
 use Rattle.board.proofs.Runs.{rest_of, cells_split, cells_join, length-laid, length_own, length_high, nodes_set, shows_slot}
 use Rattle.board.proofs.inner.Inner.lift.Goals as goal
