@@ -1,4 +1,4 @@
-use Rattle.std.proofs.Common.{sym, ap, ◌∙◌}
+use Rattle.std.proofs.Common.{ap, ◌∙◌}
 use Rattle.trees.specs.State.{State}
 use Rattle.trees.specs.Calls.{Answer, Outcome}
 use Rattle.shelf.specs.State.{state}
