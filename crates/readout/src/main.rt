@@ -14,6 +14,7 @@ use columns::release::Release;
 use rows::Sheet;
 use rules::assemblies;
 use std::io;
+use std::process::ExitCode;
 
 fn print_sheet(rt: &HostRuntime, sheet: &Sheet, whole: Release) -> io::Result<()> {
     let rule = assemblies::release(sheet.stamp);
@@ -38,12 +39,12 @@ fn run(rt: &HostRuntime) -> anyhow::Result<()> {
     Ok(())
 }
 
-fn main(rt: HostRuntime) -> anyhow::Result<()> {
+fn main(rt: HostRuntime) -> ExitCode {
     match run(&rt) {
-        Ok(()) => Ok(()),
+        Ok(()) => ExitCode::SUCCESS,
         Err(fault) => {
             let _ = eprintln!(rt; "readout: {fault}");
-            Err(fault)
+            ExitCode::FAILURE
         }
     }
 }
