@@ -1,11 +1,9 @@
 -- The node to which a path leads, in the cells of its tree: those before it and those behind it, and what a change of the node makes of them.
 use Rattle.std.proofs.Common.{◌≡◌, ℕ, zero, suc, ◌+◌, ◌<◌, ◌≤◌, List, [], ◌∷◌, ◌++◌, length, get_or, drop, set, Some, sym, refl, ap, ◌∙◌, subst, append_assoc, add-one, arith, length-append, drop-drop, drop_at}
 use Rattle.std.proofs.lemmas.List.{append-nil, drop-set}
-use Rattle.names.specs.Names.{spelled}
 use Rattle.trees.specs.Name.{Name}
 use Rattle.trees.specs.Tree.{Tree, node, Forest, empty, more, count, size, sizes, at}
 use Rattle.trees.specs.Place.{find, change_at, change_in, change_children, label_at}
-use Rattle.cells.specs.Heads.{head_value}
 use Rattle.cells.specs.Layout.{encode, encodes, cell_of, kids, Lies, before, far, label_in, with_label}
 use Rattle.cells.specs.declared.types.Cell.{Cell}
 use Rattle.cells.proofs.Layouts.{length-encode, lies_kids, lie_at, before_first, first_cell}
@@ -38,7 +36,7 @@ focus (i ∷ path) l (node h f) {u} e =
       pre = x ∷ (a.pre ++ r.pre);
       post = r.post ++ a.post;
       whole = ap (λ k. x ∷ k) (a.whole ∙ ap (λ k. a.pre ++ (k ++ a.post)) r.whole ∙ shape u);
-      changed = λ g. ap (λ n. record { label = spelled l; head = head_value h; children = n } ∷ encodes (change_at i (change_in path g) f)) (count_change (change_in path g) f i)
+      changed = λ g. ap (λ n. record { label = l; head = h; children = n } ∷ encodes (change_at i (change_in path g) f)) (count_change (change_in path g) f i)
           ∙ ap (λ k. x ∷ k) (a.changed (change_in path g) ∙ ap (λ k. a.pre ++ (k ++ a.post)) (r.changed g) ∙ shape (g u));
       far = omega (arith, length-append a.pre r.pre, a.far, r.far, far_step i path (node h f) s.child s.is);
     }

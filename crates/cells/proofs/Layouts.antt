@@ -1,14 +1,10 @@
 -- Trees that lie in cells: there is one at most at a position, and what stands in its first cell, in its children's and behind them.
-use Rattle.std.proofs.Common.{◌≡◌, ℕ, zero, suc, ◌+◌, ◌<◌, ◌≤◌, max, true, ◌&&◌, List, ◌++◌, length, get_or, drop, Some, None, sym, refl, ap, ◌∙◌, subst, append_assoc, arith, length-append, length-drop, get_or-drop, drop-drop}
+use Rattle.std.proofs.Common.{◌≡◌, ℕ, zero, suc, ◌+◌, ◌<◌, ◌≤◌, max, List, ◌++◌, length, get_or, drop, Some, None, sym, refl, ap, ◌∙◌, subst, append_assoc, arith, length-append, length-drop, get_or-drop, drop-drop}
 use lib.Seq.{drop-append_seam}
-use Rattle.std.proofs.lemmas.Bool.{and_parts}
-use Rattle.names.specs.Names.{spelled}
 use Rattle.trees.specs.Name.{Name}
-use Rattle.trees.specs.Tree.{Tree, node, Forest, empty, more, count, size, sizes, height, heights, at, variant_name}
-use Rattle.cells.specs.Heads.{head_value, meant}
-use Rattle.cells.specs.Layout.{encode, encodes, cell_of, kids, Lies, LieAll, before, tidy_name, tidy, tidy_all, root}
+use Rattle.trees.specs.Tree.{Tree, node, Forest, empty, more, count, size, sizes, height, heights, at}
+use Rattle.cells.specs.Layout.{encode, encodes, cell_of, kids, Lies, LieAll, before, root}
 use Rattle.cells.specs.declared.types.Cell.{Cell}
-use Rattle.cells.proofs.Tidy.{spelled_one, head_one, meant_head}
 
 -- a tree has as many cells as nodes
 mutual
@@ -25,22 +21,7 @@ size_pos (node h f) = omega arith
 pub height_pos : (t : Tree) → 0 < height t
 height_pos (node h f) = omega arith
 
--- a tidy node, under a tidy label, and a tidy row of children
-pub tidy_kids : (t : Tree) → tidy t ≡ true → tidy_all (kids t) ≡ true
-tidy_kids (node h f) e = (and_parts (tidy_name (variant_name h)) (tidy_all f) e).1
-
-pub record Tidied (l : Name) (t : Tree) (f : Forest) : Type 0 where
-  pub label : tidy_name l ≡ true
-  pub first : tidy t ≡ true
-  pub others : tidy_all f ≡ true
-
-pub tidied : (l : Name) (t : Tree) (f : Forest) → tidy_all (more l t f) ≡ true → Tidied l t f
-tidied l t f e =
-    let p = and_parts (tidy_name l) (tidy t && tidy_all f) e in
-    let q = and_parts (tidy t) (tidy_all f) p.1 in
-    record { label = p.0; first = q.0; others = q.1 }
-
--- two tidy trees that begin the same cells are one, under one label
+-- two trees that begin the same cells are one, under one label
 abbrev Both : Name → Tree → List Cell → Name → Tree → List Cell → Type 0
 Both l t r m u s = (l ≡ m) × (t ≡ u) × (r ≡ s)
 
@@ -48,50 +29,46 @@ abbrev BothAll : Forest → List Cell → Forest → List Cell → Type 0
 BothAll f r g s = (f ≡ g) × (r ≡ s)
 
 mutual
-  pub unique : (l m : Name) (t u : Tree) (r s : List Cell) → tidy_name l ≡ true → tidy_name m ≡ true → tidy t ≡ true → tidy u ≡ true → encode l t ++ r ≡ encode m u ++ s → Both l t r m u s
-  unique l m (node h f) (node k g) r s a b x y e =
-      let c : ◌≡◌ {A = Cell} (record { label = spelled l; head = head_value h; children = count f }) (record { label = spelled m; head = head_value k; children = count g }) = cc in
-      let hx = and_parts (tidy_name (variant_name h)) (tidy_all f) x in
-      let hy = and_parts (tidy_name (variant_name k)) (tidy_all g) y in
-      let w = unique_all f g r s hx.1 hy.1 (ap (λ (v : Cell). v.children) c) (cc) in
-      let q : h ≡ k = head_one h k hx.0 hy.0 (ap (λ (v : Cell). v.head) c) in
+  pub unique : (l m : Name) (t u : Tree) (r s : List Cell) → encode l t ++ r ≡ encode m u ++ s → Both l t r m u s
+  unique l m (node h f) (node k g) r s e =
+      let c : ◌≡◌ {A = Cell} (record { label = l; head = h; children = count f }) (record { label = m; head = k; children = count g }) = cc in
+      let w = unique_all f g r s (ap (λ (v : Cell). v.children) c) (cc) in
+      let q : h ≡ k = ap (λ (v : Cell). v.head) c in
       let z = w.0 in
-      (spelled_one l m a b (ap (λ (v : Cell). v.label) c), (cc), w.1)
+      (ap (λ (v : Cell). v.label) c, (cc), w.1)
 
-  pub unique_all : (f g : Forest) (r s : List Cell) → tidy_all f ≡ true → tidy_all g ≡ true → count f ≡ count g → encodes f ++ r ≡ encodes g ++ s → BothAll f r g s
-  unique_all empty empty r s x y n e = (refl, e)
-  unique_all empty (more m u g) r s x y n e = absurd (omega arith)
-  unique_all (more l t f) empty r s x y n e = absurd (omega arith)
-  unique_all (more l t f) (more m u g) r s x y n e =
+  pub unique_all : (f g : Forest) (r s : List Cell) → count f ≡ count g → encodes f ++ r ≡ encodes g ++ s → BothAll f r g s
+  unique_all empty empty r s n e = (refl, e)
+  unique_all empty (more m u g) r s n e = absurd (omega arith)
+  unique_all (more l t f) empty r s n e = absurd (omega arith)
+  unique_all (more l t f) (more m u g) r s n e =
       let e' : encode l t ++ (encodes f ++ r) ≡ encode m u ++ (encodes g ++ s) = sym (append_assoc (encode l t) (encodes f) r) ∙ e ∙ append_assoc (encode m u) (encodes g) s in
-      let p = tidied l t f x in
-      let q = tidied m u g y in
-      let a = unique l m t u (encodes f ++ r) (encodes g ++ s) p.label q.label p.first q.first e' in
-      let b = unique_all f g r s p.others q.others (omega arith) a.2 in
+      let a = unique l m t u (encodes f ++ r) (encodes g ++ s) e' in
+      let b = unique_all f g r s (omega arith) a.2 in
       let v = a.0 in
       let w = a.1 in
       let z = b.0 in
       (cc, b.1)
 
 -- the facts on bounds follow from the rest
-pub lies : {cells : List Cell} {at : ℕ} {t : Tree} (label : Name) (rest : List Cell) → drop at cells ≡ encode label t ++ rest → tidy_name label ≡ true → tidy t ≡ true → Lies cells at t
-lies {cells} {at} {t} label rest e a b =
+pub lies : {cells : List Cell} {at : ℕ} {t : Tree} (label : Name) (rest : List Cell) → drop at cells ≡ encode label t ++ rest → Lies cells at t
+lies {cells} {at} {t} label rest e =
     let n = ap length e in
     let k : at + size t ≤ length cells = omega (arith, size_pos t, length-append (encode label t) rest, length-encode label t, length-drop at cells) in
-    record { label = label; rest = rest; is = e; begins = omega (arith, size_pos t); within = k; named = a; clean = b }
+    record { label = label; rest = rest; is = e; begins = omega (arith, size_pos t); within = k }
 
 pub lies_unique : {cells : List Cell} {at : ℕ} {t u : Tree} → Lies cells at t → Lies cells at u → t ≡ u
-lies_unique {t} {u} a b = (unique a.label b.label t u a.rest b.rest a.named b.named a.clean b.clean (sym a.is ∙ b.is)).1
+lies_unique {t} {u} a b = (unique a.label b.label t u a.rest b.rest (sym a.is ∙ b.is)).1
 
 pub lie_all_unique : {cells : List Cell} {at : ℕ} {f g : Forest} → LieAll cells at f → LieAll cells at g → count f ≡ count g → f ≡ g
-lie_all_unique {f} {g} a b n = (unique_all f g a.rest b.rest a.clean b.clean n (sym a.is ∙ b.is)).0
+lie_all_unique {f} {g} a b n = (unique_all f g a.rest b.rest n (sym a.is ∙ b.is)).0
 
 -- the children of a tree, the first of a row of trees, and the others
 pub lies_kids : {cells : List Cell} {at : ℕ} (t : Tree) → Lies cells at t → LieAll cells (at + 1) (kids t)
-lies_kids {cells} {at} (node h f) a = record { rest = a.rest; is = sym (drop-drop 1 at cells) ∙ ap (drop 1) a.is; within = omega arith; clean = tidy_kids (node h f) a.clean }
+lies_kids {cells} {at} (node h f) a = record { rest = a.rest; is = sym (drop-drop 1 at cells) ∙ ap (drop 1) a.is; within = omega arith }
 
 pub lie_first : {cells : List Cell} {at : ℕ} {l : Name} {t : Tree} {f : Forest} → LieAll cells at (more l t f) → Lies cells at t
-lie_first {l} {t} {f} a = let p = tidied l t f a.clean in lies l (encodes f ++ a.rest) (a.is ∙ append_assoc (encode l t) (encodes f) a.rest) p.label p.first
+lie_first {l} {t} {f} a = lies l (encodes f ++ a.rest) (a.is ∙ append_assoc (encode l t) (encodes f) a.rest)
 
 pub lie_rest : {cells : List Cell} {at : ℕ} {l : Name} {t : Tree} {f : Forest} → LieAll cells at (more l t f) → LieAll cells (at + size t) f
 lie_rest {cells} {at} {l} {t} {f} a =
@@ -100,7 +77,6 @@ lie_rest {cells} {at} {l} {t} {f} a =
       rest = a.rest;
       is = ap (λ n. drop (at + n) cells) (sym (length-encode l t)) ∙ sym (drop-drop (length (encode l t)) at cells) ∙ ap (drop (length (encode l t))) e ∙ drop-append_seam (encode l t) (encodes f ++ a.rest);
       within = omega arith;
-      clean = (tidied l t f a.clean).others;
     }
 
 -- a tree's first cell
@@ -113,20 +89,20 @@ lies_cell {cells} {at} {t} d a = first_cell cells at a.label t a.rest d a.is
 pub cell_count : (l : Name) (t : Tree) → (cell_of l t).children ≡ count (kids t)
 cell_count l (node h f) = refl
 
-pub cell_label : (l : Name) (t : Tree) → (cell_of l t).label ≡ spelled l
+pub cell_label : (l : Name) (t : Tree) → (cell_of l t).label ≡ l
 cell_label l (node h f) = refl
 
-pub cell_head : (l : Name) (t : Tree) → tidy t ≡ true → meant (cell_of l t).head ≡ root t
-cell_head l (node h f) e = meant_head h (and_parts (tidy_name (variant_name h)) (tidy_all f) e).0
+pub cell_head : (l : Name) (t : Tree) → (cell_of l t).head ≡ root t
+cell_head l (node h f) = refl
 
 pub lies_count : {cells : List Cell} {at : ℕ} {t : Tree} (d : Cell) → Lies cells at t → (get_or cells at d).children ≡ count (kids t)
 lies_count {t} d a = ap (λ (x : Cell). x.children) (lies_cell d a) ∙ cell_count a.label t
 
-pub lies_label : {cells : List Cell} {at : ℕ} {t : Tree} (d : Cell) → (a : Lies cells at t) → (get_or cells at d).label ≡ spelled a.label
+pub lies_label : {cells : List Cell} {at : ℕ} {t : Tree} (d : Cell) → (a : Lies cells at t) → (get_or cells at d).label ≡ a.label
 lies_label {t} d a = ap (λ (x : Cell). x.label) (lies_cell d a) ∙ cell_label a.label t
 
-pub lies_head : {cells : List Cell} {at : ℕ} {t : Tree} (d : Cell) → Lies cells at t → meant (get_or cells at d).head ≡ root t
-lies_head {t} d a = ap (λ (x : Cell). meant x.head) (lies_cell d a) ∙ cell_head a.label t a.clean
+pub lies_head : {cells : List Cell} {at : ℕ} {t : Tree} (d : Cell) → Lies cells at t → (get_or cells at d).head ≡ root t
+lies_head {t} d a = ap (λ (x : Cell). x.head) (lies_cell d a) ∙ cell_head a.label t
 
 -- the child at a position
 pub lie_at : {cells : List Cell} (pos : ℕ) (f : Forest) (i : ℕ) {u : Tree} → LieAll cells pos f → at i f ≡ Some u → Lies cells (pos + before i f) u

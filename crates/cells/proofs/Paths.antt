@@ -1,9 +1,10 @@
 -- Where paths lead.
-use Rattle.std.proofs.Common.{◌≡◌, ℕ, zero, suc, ◌+◌, ◌≤◌, true, List, [], ◌∷◌, length, Some, None, Option, refl, ap, ◌∙◌, subst, arith}
-use Rattle.trees.specs.Tree.{Tree, node, Forest, empty, more, height, at}
-use Rattle.trees.specs.Place.{find}
-use Rattle.cells.specs.Layout.{kids, before, far, tidy, tidy_all}
-use Rattle.cells.proofs.Layouts.{height_at, tidied, tidy_kids}
+use Rattle.std.proofs.Common.{◌≡◌, ℕ, ◌+◌, ◌≤◌, List, [], ◌∷◌, length, Some, None, Option, refl, ap, ◌∙◌, arith}
+use Rattle.trees.specs.Tree.{Tree, node, height, at}
+use Rattle.trees.specs.Name.{Name}
+use Rattle.trees.specs.Place.{find, label_at}
+use Rattle.cells.specs.Layout.{kids, before, far, label_in}
+use Rattle.cells.proofs.Layouts.{height_at}
 
 -- nothing leads on from no node
 pub find_none : (path : List ℕ) → find None path ≡ None
@@ -19,6 +20,9 @@ find_past i path u e = find_step i path u None e ∙ find_none path
 
 pub far_step : (i : ℕ) (path : List ℕ) (u v : Tree) → at i (kids u) ≡ Some v → far (Some u) (i ∷ path) ≡ before i (kids u) + 1 + far (Some v) path
 far_step i path (node h f) v e = omega (arith, ap (λ o. far o path) e)
+
+pub label_step : (i : ℕ) (path : List ℕ) (l : Name) (u v : Tree) → at i (kids u) ≡ Some v → label_in l (Some u) (i ∷ path) ≡ label_in (label_at i (kids u)) (Some v) path
+label_step i path l (node h f) v e = ap (λ o. label_in (label_at i f) o path) e
 
 -- a path that leads somewhere has a first step that does
 pub record Stepped (i : ℕ) (path : List ℕ) (t u : Tree) : Type 0 where
@@ -42,15 +46,3 @@ level_find [] t {u} e = let k : t ≡ u = cc in omega (arith, ap height k)
 level_find (i ∷ path) t {u} e =
     let s = stepped i path t u e in
     omega (arith, level_find path s.child s.on, height_kid t i s.is)
-
--- the nodes of a tidy tree are tidy
-tidy_at : (f : Forest) (i : ℕ) {v : Tree} → at i f ≡ Some v → tidy_all f ≡ true → tidy v ≡ true
-tidy_at empty i e a = absurd (let z : ◌≡◌ {A = ℕ} 0 1 = cc in omega arith)
-tidy_at (more l t f) zero {v} e a = let k : t ≡ v = cc in subst (λ w. tidy w ≡ true) k (tidied l t f a).first
-tidy_at (more l t f) (suc i) e a = tidy_at f i e (tidied l t f a).others
-
-pub tidy_find : (path : List ℕ) (t : Tree) {u : Tree} → find (Some t) path ≡ Some u → tidy t ≡ true → tidy u ≡ true
-tidy_find [] t {u} e a = let k : t ≡ u = cc in subst (λ w. tidy w ≡ true) k a
-tidy_find (i ∷ path) t {u} e a =
-    let s = stepped i path t u e in
-    tidy_find path s.child s.on (tidy_at (kids t) i s.is (tidy_kids t a))

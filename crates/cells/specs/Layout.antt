@@ -1,12 +1,11 @@
 -- How trees lie in cells: each node before its children, those one after the other.
-use Rattle.std.specs.Prelude.{◌≡◌, ℕ, zero, suc, ◌+◌, ◌<◌, ◌≤◌, Bool, true, ◌&&◌, List, [], ◌∷◌, ◌++◌, length, take, drop, replicate, Some, None, Option}
-use Rattle.names.specs.Names.{good_name, spelled}
+use Rattle.std.specs.Prelude.{◌≡◌, ℕ, zero, suc, ◌+◌, ◌<◌, ◌≤◌, List, [], ◌∷◌, ◌++◌, length, take, drop, replicate, Some, None, Option}
 use Rattle.trees.specs.Name.{Name}
-use Rattle.trees.specs.Tree.{Head, Tree, node, Forest, empty, more, count, size, sizes, at, variant_name}
+use Rattle.trees.specs.declared.head.Head.{Head}
+use Rattle.trees.specs.Tree.{Tree, node, Forest, empty, more, count, size, sizes, at}
 use Rattle.trees.specs.Place.{label_at}
-use Rattle.cells.specs.Heads.{head_value}
 use Rattle.cells.specs.declared.types.Cell.{Cell}
-use Rattle.cells.specs.declared.types.Head.TheVariants as value
+use Rattle.trees.specs.declared.head.Head.TheVariants as value
 
 -- the children of a node
 abbrev pub kids : Tree → Forest
@@ -18,7 +17,7 @@ root (node h f) = h
 
 -- the cell of a node that is held under a label, empty where it has none
 abbrev pub cell_of : Name → Tree → Cell
-cell_of l (node h f) = record { label = spelled l; head = head_value h; children = count f }
+cell_of l (node h f) = record { label = l; head = h; children = count f }
 
 -- the cells of a tree: its root's, then those of its children
 abbrev mutual
@@ -31,25 +30,11 @@ abbrev mutual
 
 -- what a cell is that holds no node
 abbrev pub vacant : Cell
-vacant = record { label = spelled []; head = value.Tuple; children = 0 }
+vacant = record { label = []; head = value.Tuple; children = 0 }
 
 -- the cells with n of them, from the position a on, vacant
 abbrev pub blanked : List Cell → ℕ → ℕ → List Cell
 blanked cells a n = take a cells ++ (replicate n vacant ++ drop (a + n) cells)
-
--- a name that its value gives back: a good one, or none
-abbrev pub tidy_name : Name → Bool
-tidy_name [] = true
-tidy_name (x ∷ xs) = good_name (x ∷ xs)
-
--- every name in the tree is tidy
-abbrev mutual
-  pub tidy : Tree → Bool
-  tidy (node h f) = tidy_name (variant_name h) && tidy_all f
-
-  pub tidy_all : Forest → Bool
-  tidy_all empty = true
-  tidy_all (more l t f) = tidy_name l && (tidy t && tidy_all f)
 
 -- the tree t lies in the cells from the position at on
 pub record Lies (cells : List Cell) (at : ℕ) (t : Tree) : Type 0 where
@@ -58,15 +43,12 @@ pub record Lies (cells : List Cell) (at : ℕ) (t : Tree) : Type 0 where
   pub is : drop at cells ≡ encode label t ++ rest
   pub begins : at < length cells
   pub within : at + size t ≤ length cells
-  pub named : tidy_name label ≡ true
-  pub clean : tidy t ≡ true
 
 -- the children f lie there, one after the other
 pub record LieAll (cells : List Cell) (at : ℕ) (f : Forest) : Type 0 where
   pub rest : List Cell
   pub is : drop at cells ≡ encodes f ++ rest
   pub within : at + sizes f ≤ length cells
-  pub clean : tidy_all f ≡ true
 
 -- how many cells the children before a position take
 abbrev pub before : ℕ → Forest → ℕ
@@ -92,4 +74,10 @@ with_count x n = record { label = x.label; head = x.head; children = n }
 
 -- a cell with another label
 abbrev pub with_label : Cell → Name → Cell
-with_label x l = record { label = spelled l; head = x.head; children = x.children }
+with_label x l = record { label = l; head = x.head; children = x.children }
+
+-- two neighbouring runs of cells in changed places
+abbrev pub Exchanges : List Cell → List Cell → ℕ → ℕ → ℕ → Type 0
+Exchanges old new from mid to =
+    (p q r s : List Cell) → old ≡ p ++ (q ++ (r ++ s))
+    → length p ≡ from → from + length q ≡ mid → mid + length r ≡ to → new ≡ p ++ (r ++ (q ++ s))

@@ -1,3 +1,3 @@
-pub mod Heads
 pub mod Layout
-pub mod Children
+pub mod Reading
+pub mod Views

@@ -7,7 +7,7 @@ use rules::leaf::Leaf;
 use rules::number::AddressRule;
 use rules::rule::LeafRule;
 use rules::stamp::Stamp;
-use std::cmp::Ordering;
+use rules::words::{Ordered, Truth};
 use std::io;
 
 const NEGATIVE_ZERO: u64 = 0x8000_0000_0000_0000;
@@ -20,116 +20,49 @@ const HALF: u64 = 0x3fe0_0000_0000_0000;
 
 const MINUS_TWO: u64 = 0xffff_ffff_ffff_fffe;
 
-const NUMBERS: [(Leaf, Leaf); 14] = [
-    (Leaf { tag: 1, value: 7 }, Leaf { tag: 1, value: 7 }),
-    (
-        Leaf {
-            tag: 1,
-            value: MINUS_TWO,
-        },
-        Leaf { tag: 1, value: 1 },
-    ),
-    (
-        Leaf {
-            tag: 2,
-            value: MINUS_TWO,
-        },
-        Leaf { tag: 2, value: 1 },
-    ),
-    (Leaf { tag: 3, value: 2 }, Leaf { tag: 3, value: 1 }),
-    (
-        Leaf { tag: 4, value: 0 },
-        Leaf {
-            tag: 4,
-            value: NEGATIVE_ZERO,
-        },
-    ),
-    (Leaf { tag: 4, value: NAN }, Leaf { tag: 4, value: NAN }),
-    (
-        Leaf {
-            tag: 4,
-            value: HALF,
-        },
-        Leaf {
-            tag: 4,
-            value: INFINITY,
-        },
-    ),
-    (
-        Leaf {
-            tag: 4,
-            value: HALF,
-        },
-        Leaf {
-            tag: 4,
-            value: NEGATIVE_ZERO,
-        },
-    ),
-    (Leaf { tag: 5, value: 7 }, Leaf { tag: 5, value: 7 }),
-    (Leaf { tag: 1, value: 7 }, Leaf { tag: 5, value: 7 }),
-    (Leaf { tag: 5, value: 7 }, Leaf { tag: 1, value: 7 }),
-    (Leaf { tag: 1, value: 7 }, Leaf { tag: 2, value: 7 }),
-    (Leaf { tag: 6, value: 7 }, Leaf { tag: 6, value: 7 }),
-    (Leaf { tag: 0, value: 7 }, Leaf { tag: 1, value: 7 }),
+/// Two leaves, each as its tag and its value.
+type Case = ((u16, u64), (u16, u64));
+
+const NUMBERS: [Case; 14] = [
+    ((1, 7), (1, 7)),
+    ((1, MINUS_TWO), (1, 1)),
+    ((2, MINUS_TWO), (2, 1)),
+    ((3, 2), (3, 1)),
+    ((4, 0), (4, NEGATIVE_ZERO)),
+    ((4, NAN), (4, NAN)),
+    ((4, HALF), (4, INFINITY)),
+    ((4, HALF), (4, NEGATIVE_ZERO)),
+    ((5, 7), (5, 7)),
+    ((1, 7), (5, 7)),
+    ((5, 7), (1, 7)),
+    ((1, 7), (2, 7)),
+    ((6, 7), (6, 7)),
+    ((0, 7), (1, 7)),
 ];
 
-const ADDRESSES: [(Leaf, Leaf); 6] = [
-    (
-        Leaf {
-            tag: 1,
-            value: 0x0001_0000_0000_0400,
-        },
-        Leaf {
-            tag: 1,
-            value: 0x0001_0000_0000_0800,
-        },
-    ),
-    (
-        Leaf {
-            tag: 1,
-            value: 0x0001_0000_0000_0400,
-        },
-        Leaf {
-            tag: 1,
-            value: 0x0002_0000_0000_0400,
-        },
-    ),
-    (Leaf { tag: 2, value: 16 }, Leaf { tag: 2, value: 8 }),
-    (Leaf { tag: 3, value: 1 }, Leaf { tag: 3, value: 1 }),
-    (Leaf { tag: 3, value: 1 }, Leaf { tag: 3, value: 2 }),
-    (Leaf { tag: 2, value: 16 }, Leaf { tag: 3, value: 16 }),
+const ADDRESSES: [Case; 6] = [
+    ((1, 0x0001_0000_0000_0400), (1, 0x0001_0000_0000_0800)),
+    ((1, 0x0001_0000_0000_0400), (1, 0x0002_0000_0000_0400)),
+    ((2, 16), (2, 8)),
+    ((3, 1), (3, 1)),
+    ((3, 1), (3, 2)),
+    ((2, 16), (3, 16)),
 ];
-
-fn truth(answer: Option<bool>) -> &'static str {
-    match answer {
-        None => "none",
-        Some(yes) => { if yes { "true" } else { "false" } }
-    }
-}
-
-fn order(answer: Option<Ordering>) -> &'static str {
-    match answer {
-        None => "none",
-        Some(Ordering::Less) => "less",
-        Some(Ordering::Equal) => "equal",
-        Some(Ordering::Greater) => "greater",
-    }
-}
 
 fn print_cases<R: LeafRule>(
-    rt: &HostRuntime,
+    rt: &impl Print,
     rule: &R,
     title: &str,
-    cases: &[(Leaf, Leaf)],
+    cases: &[Case],
 ) -> io::Result<()> {
-    for (p, q) in cases.iter() {
-        let admits = rule.admits(*p);
-        let eq = truth(rule.eq(*p, *q));
-        let cmp = order(rule.cmp(*p, *q));
-        let beside = truth(rule.beside(*p));
-        let hashes = rule.hash(*p).is_some();
-        let one = p.tag;
-        let two = q.tag;
+    for &((one, v), (two, w)) in cases {
+        let p = Leaf { tag: one, value: v };
+        let q = Leaf { tag: two, value: w };
+        let admits = rule.admits(p);
+        let eq = Truth(rule.eq(p, q));
+        let cmp = Ordered(rule.cmp(p, q));
+        let beside = Truth(rule.beside(p));
+        let hashes = rule.hash(p).is_some();
         println!(rt;
             "{title} {one} {two}: admits {admits}, eq {eq}, cmp {cmp}, beside {beside}, hashes {hashes}"
         )?;

@@ -1,54 +1,39 @@
--- Heights and tidy names of children that are changed, added or found, and of sound trees.
-use Rattle.std.proofs.Common.{◌≡◌, ℕ, zero, suc, ◌≤◌, true, Some, sym, refl, ap, ◌∙◌, arith}
+-- Sound nodes: their height, and what a change or a further child leaves sound.
+use Rattle.std.proofs.Common.{◌≡◌, ℕ, suc, ◌≤◌, true, [], Some, sym, refl, ap, ◌∙◌, arith}
 use Rattle.std.proofs.lemmas.Bool.{and_parts, and_from}
-use Rattle.trees.specs.Name.{Name}
-use Rattle.trees.specs.Tree.{Head, Tree, node, Forest, empty, more, height, heights, at, labels, each, fits, sound, variant_name}
-use Rattle.trees.specs.Place.{change_at, add_last, label_at}
-use Rattle.cells.specs.Layout.{tidy_name, tidy, tidy_all}
-use Rattle.cells.proofs.Layouts.{tidied}
+use Rattle.names.specs.Names.{same_name}
+use Rattle.trees.specs.Name.{Name, all_empty}
+use Rattle.trees.specs.declared.head.Head.{Head}
+use Rattle.trees.specs.declared.head.Head.TheVariants.{List as list}
+use Rattle.trees.specs.Tree.{Tree, node, Forest, empty, more, heights, at, labels, each, fits, sound}
+use Rattle.trees.specs.Place.{change_at, add_last}
+use Rattle.trees.proofs.Changes.{at_ok, each_change_at, each_last}
+use Rattle.cells.proofs.Sounds.{sound_height}
+use Rattle.patch.proofs.Places.{labels_change}
 
-pub heights_change : (j : ℕ) (t : Tree) (f : Forest) (b : ℕ) → height t ≤ b → heights f ≤ b → heights (change_at j (λ _. t) f) ≤ b
-heights_change j t empty b h k = k
-heights_change zero t (more l u f) b h k = omega arith
-heights_change (suc j) t (more l u f) b h k = omega (arith, heights_change j t f b h (omega arith))
+module _ (n : ℕ) (h : Head) (f : Forest) (s : sound (suc n) (node h f) ≡ true) where
+  pub sane_fits : fits h (labels f) ≡ true
+  sane_fits = (and_parts (fits h (labels f)) (each (sound n) f) s).0
 
-pub heights_last : (l : Name) (u : Tree) (f : Forest) (b : ℕ) → height u ≤ b → heights f ≤ b → heights (add_last l u f) ≤ b
-heights_last l u empty b h k = omega arith
-heights_last l u (more m t f) b h k = omega (arith, heights_last l u f b h (omega arith))
+  pub sane_each : each (sound n) f ≡ true
+  sane_each = (and_parts (fits h (labels f)) (each (sound n) f) s).1
 
-pub tidy_change : (j : ℕ) (t : Tree) (f : Forest) → tidy t ≡ true → tidy_all f ≡ true → tidy_all (change_at j (λ _. t) f) ≡ true
-tidy_change j t empty h k = k
-tidy_change zero t (more l u f) h k = let p = tidied l u f k in and_from _ _ p.label (and_from _ _ h p.others)
-tidy_change (suc j) t (more l u f) h k = let p = tidied l u f k in and_from _ _ p.label (and_from _ _ p.first (tidy_change j t f h p.others))
+  pub sane_low : heights f ≤ n
+  sane_low = omega (arith, sound_height (suc n) (node h f) s)
 
-pub tidy_last : (l : Name) (u : Tree) (f : Forest) → tidy_name l ≡ true → tidy u ≡ true → tidy_all f ≡ true → tidy_all (add_last l u f) ≡ true
-tidy_last l u empty n h k = and_from _ _ n (and_from _ _ h refl)
-tidy_last l u (more m t f) n h k = let p = tidied m t f k in and_from _ _ p.label (and_from _ _ p.first (tidy_last l u f n h p.others))
+  pub sane_at : (j : ℕ) {t : Tree} → at j f ≡ Some t → sound n t ≡ true
+  sane_at j {t} e = at_ok (sound n) j f t sane_each e
 
-pub tidy_label : (j : ℕ) (f : Forest) → tidy_all f ≡ true → tidy_name (label_at j f) ≡ true
-tidy_label j empty k = refl
-tidy_label zero (more l t f) k = (tidied l t f k).label
-tidy_label (suc j) (more l t f) k = tidy_label j f (tidied l t f k).others
+  pub sane_change : (j : ℕ) (t : Tree) → sound n t ≡ true → sound (suc n) (node h (change_at j (λ _. t) f)) ≡ true
+  sane_change j t k = and_from _ _ (ap (fits h) (labels_change j t f) ∙ sane_fits) (each_change_at (sound n) j (λ _. t) f sane_each (λ u e q. k))
 
-pub tidy_at : (j : ℕ) (f : Forest) {t : Tree} → at j f ≡ Some t → tidy_all f ≡ true → tidy t ≡ true
-tidy_at j empty e k = absurd (let z : ◌≡◌ {A = ℕ} 0 1 = cc in omega arith)
-tidy_at zero (more l u f) {t} e k = let q : u ≡ t = cc in sym (ap tidy q) ∙ (tidied l u f k).first
-tidy_at (suc j) (more l u f) e k = tidy_at j f e (tidied l u f k).others
-
-pub tidy_node : (h : Head) (f : Forest) → tidy_name (variant_name h) ≡ true → tidy_all f ≡ true → tidy (node h f) ≡ true
-tidy_node h f a b = and_from _ _ a b
-
-pub tidy_parts : (h : Head) (f : Forest) → tidy (node h f) ≡ true → (tidy_name (variant_name h) ≡ true) × (tidy_all f ≡ true)
-tidy_parts h f e = and_parts (tidy_name (variant_name h)) (tidy_all f) e
-
-each_high : (n : ℕ) → ((t : Tree) → sound n t ≡ true → height t ≤ n) → (f : Forest) → each (sound n) f ≡ true → heights f ≤ n
-each_high n k empty e = omega arith
-each_high n k (more l t f) e =
-    let p = and_parts (sound n t) (each (sound n) f) e in
-    omega (arith, k t p.0, each_high n k f p.1)
-
--- a sound tree has no more levels than it may have
-pub sound_high : (n : ℕ) (t : Tree) → sound n t ≡ true → height t ≤ n
-sound_high zero t e = absurd (let z : ◌≡◌ {A = ℕ} 0 1 = cc in omega arith)
-sound_high (suc n) (node h f) e =
-    omega (arith, each_high n (sound_high n) f (and_parts (fits h (labels f)) (each (sound n) f) e).1)
+  -- a list with an element more
+  pub sane_last : (l : Name) (u : Tree) → h ≡ list → same_name l [] ≡ true → sound n u ≡ true → sound (suc n) (node h (add_last l u f)) ≡ true
+  sane_last l u e q k =
+      and_from _ _
+      (ap (λ (x : Head). fits x (labels (add_last l u f))) e ∙ all_last f (ap (λ (x : Head). fits x (labels f)) (sym e) ∙ sane_fits))
+      (each_last (sound n) l u f sane_each k)
+    where
+      all_last : (g : Forest) → all_empty (labels g) ≡ true → all_empty (labels (add_last l u g)) ≡ true
+      all_last empty a = and_from _ _ q refl
+      all_last (more m t g) a = let p = and_parts (same_name m []) (all_empty (labels g)) a in and_from _ _ p.0 (all_last g p.1)

@@ -3,8 +3,8 @@ use Rattle.std.proofs.Common.{◌≡◌, ℕ, ◌+◌, ◌-◌, ◌<◌, ◌≤�
 use lib.Seq.{set_at, paste}
 use Rattle.std.proofs.lemmas.List.{take-append-drop}
 use Rattle.cells.specs.declared.types.Cell.{Cell}
-use Rattle.patch.specs.declared.edits.Run.{Run}
-use Rattle.patch.specs.Edits.{Site, IsRenewed}
+use Rattle.std.specs.declared.ops.Range.{Range}
+use Rattle.patch.specs.Edits.{Parts, IsRenewed}
 
 module _ {X : Type 0} where
   -- cells by their parts: the copy goes to the first free ones
@@ -20,7 +20,7 @@ module _ {X : Type 0} where
 abbrev pub Exchanged : List Cell → List Cell → ℕ → ℕ → ℕ → Type 0
 Exchanged xs ys from mid to = (p q r s : List Cell) → xs ≡ p ++ (q ++ (r ++ s)) → length p ≡ from → from + length q ≡ mid → mid + length r ≡ to → ys ≡ p ++ (r ++ (q ++ s))
 
-module _ {cells : List Cell} {target : ℕ} {run old : Run} {used : ℕ} {p : List Cell} {x : Cell} {f o q rest copied after : List Cell} (s : Site cells target run old used p x f o q rest copied after) where
+module _ {cells : List Cell} {target : ℕ} {run old : Range ℕ} {used : ℕ} {p : List Cell} {x : Cell} {f o q rest copied after : List Cell} (s : Parts cells target run old used p x f o q rest copied after) where
   -- how many cells there are
   pub site_length : length cells ≡ used + length rest
   site_length = omega (arith, ap length s.is, length-append p (x ∷ (f ++ (o ++ (q ++ rest)))), length-append f (o ++ (q ++ rest)), length-append o (q ++ rest), length-append q rest, s.target_is, s.at_is, s.end_is, s.used_is)
@@ -29,7 +29,7 @@ module _ {cells : List Cell} {target : ℕ} {run old : Run} {used : ℕ} {p : Li
   pub site_target : target < length cells
   site_target = omega (arith, site_length, s.at_is, s.end_is, s.used_is)
 
-  module _ (size : ℕ) (sz : size ≡ length copied) (h : size ≤ length rest) (c1 c2 c3 : List Cell) (e1 : c1 ≡ paste cells used (drop run.at cells) size) (e2 : Exchanged c1 c2 old.at used (used + size)) (e3 : Exchanged c2 c3 (old.at + size) (old.end + size) (used + size)) where
+  module _ (size : ℕ) (sz : size ≡ length copied) (h : size ≤ length rest) (c1 c2 c3 : List Cell) (e1 : c1 ≡ paste cells used (drop run.start cells) size) (e2 : Exchanged c1 c2 old.start used (used + size)) (e3 : Exchanged c2 c3 (old.start + size) (old.end + size) (used + size)) where
     abbrev left : List Cell
     left = drop size rest
 
@@ -37,16 +37,16 @@ module _ {cells : List Cell} {target : ℕ} {run old : Run} {used : ℕ} {p : Li
     shape =
         let P = p ++ (x ∷ f) in
         let a = P ++ (o ++ q) in
-        let lP : length P ≡ old.at = omega (arith, length-append p (x ∷ f), s.target_is, s.at_is) in
+        let lP : length P ≡ old.start = omega (arith, length-append p (x ∷ f), s.target_is, s.at_is) in
         let la : length a ≡ used = omega (arith, length-append P (o ++ q), length-append o q, lP, s.end_is, s.used_is) in
         let r1 : cells ≡ a ++ rest = s.is ∙ simp append_assoc in
-        let k1 : c1 ≡ P ++ ((o ++ q) ++ (copied ++ left)) = e1 ∙ copied_run cells a rest copied after run.at used size r1 la s.run_is (sym sz) h ∙ append_assoc P (o ++ q) (copied ++ left) in
+        let k1 : c1 ≡ P ++ ((o ++ q) ++ (copied ++ left)) = e1 ∙ copied_run cells a rest copied after run.start used size r1 la s.run_is (sym sz) h ∙ append_assoc P (o ++ q) (copied ++ left) in
         let k2 : c2 ≡ P ++ (copied ++ ((o ++ q) ++ left)) = e2 P (o ++ q) copied left k1 lP (omega (arith, length-append o q, s.end_is, s.used_is)) (omega arith) in
         let k3 : c2 ≡ (P ++ copied) ++ (o ++ (q ++ left)) = k2 ∙ simp append_assoc in
         let k4 : c3 ≡ (P ++ copied) ++ (q ++ (o ++ left)) = e3 (P ++ copied) o q left k3 (omega (arith, length-append P copied, lP)) (omega (arith, s.end_is)) (omega (arith, s.used_is)) in
         k4 ∙ simp append_assoc
 
-    pub renewed : (cell : Cell) → IsRenewed (set c3 target cell) cell p f o q rest copied (used + size - (old.end - old.at))
+    pub renewed : (cell : Cell) → IsRenewed (set c3 target cell) cell p f o q rest copied (used + size - (old.end - old.start))
     renewed cell =
         let w : set c3 target cell ≡ p ++ (cell ∷ (f ++ (copied ++ (q ++ (o ++ left))))) = ap (λ l. set l target cell) shape ∙ set_at p x _ cell target s.target_is in
         let ll : length left ≡ length rest - size = length-drop size rest in

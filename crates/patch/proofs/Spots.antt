@@ -2,16 +2,23 @@
 use Rattle.std.proofs.Common.{◌≡◌, ℕ, ◌+◌, ◌≤◌, List, [], ◌∷◌, ◌++◌, length, get_or, drop, sym, ap, ◌∙◌, subst, ap₂, append_assoc, arith, length-append, drop-drop, drop_at}
 use Rattle.std.proofs.lemmas.List.{append-nil}
 use Rattle.trees.specs.Name.{Name}
-use Rattle.trees.specs.Tree.{Head, Tree, node, Forest, empty, more, size, sizes}
+use Rattle.trees.specs.declared.head.Head.{Head}
+use Rattle.trees.specs.Tree.{Tree, node, Forest, empty, more, size, sizes}
 use Rattle.trees.specs.Place.{add_last}
 use Rattle.cells.specs.declared.types.Cell.{Cell}
 use Rattle.cells.specs.Layout.{encode, encodes, cell_of, Lies}
+use Rattle.cells.specs.Reading.{tree_at}
 use Rattle.cells.proofs.Layouts.{lies, first_cell, length-encode, length-encodes}
+use Rattle.cells.proofs.Readings.{lies_read}
 use Rattle.patch.specs.declared.errors.ApplyError.{ApplyError}
 use Rattle.patch.specs.declared.frames.Meeting.{Meeting}
-use Rattle.patch.specs.declared.edits.Run.{Run}
-use Rattle.patch.specs.Edits.{Site, IsRenewed, Refused, Spot, Became}
+use Rattle.std.specs.declared.ops.Range.{Range}
+use Rattle.patch.specs.Edits.{Parts, IsRenewed, Refused, Spot, Became, Placed, Site}
 use Rattle.patch.proofs.Zippers.{drop_beyond}
+
+-- where a tree ends, as it is read
+pub ends_at : {cells : List Cell} {at n : ℕ} {t : Tree} → Lies cells at t → n ≡ at + size (tree_at cells at) → n ≡ at + size t
+ends_at {at = at} a e = e ∙ ap (λ v. at + size v) (lies_read a).tree
 
 module _ {cells : List Cell} {at : Meeting} {used : ℕ} {p : List Cell} {l : Name} {t u : Tree} {q rest : List Cell} (s : Spot cells at used p l t u q rest) where
   -- both nodes lie in the cells
@@ -19,7 +26,7 @@ module _ {cells : List Cell} {at : Meeting} {used : ℕ} {p : List Cell} {l : Na
   target_drop = ap (drop at.target) s.is ∙ drop_at p (encode l t ++ (q ++ rest)) at.target (sym s.place)
 
   pub spot_target : Lies cells at.target t
-  spot_target = lies l (q ++ rest) target_drop s.called s.clean
+  spot_target = lies l (q ++ rest) target_drop
 
   pub patch_drop : drop at.patch cells ≡ encode s.patch.label u ++ (s.patch.rest ++ (encode l t ++ (q ++ rest)))
   patch_drop = ap (drop at.patch) s.is ∙ drop_beyond (encode l t ++ (q ++ rest)) s.patch
@@ -32,8 +39,6 @@ module _ {cells : List Cell} {at : Meeting} {used : ℕ} {p : List Cell} {l : Na
         is = patch_drop;
         begins = omega (arith, s.patch.begins, ap length s.is, length-append p (encode l t ++ (q ++ rest)));
         within = omega (arith, s.patch.within, ap length s.is, length-append p (encode l t ++ (q ++ rest)));
-        named = s.patch.named;
-        clean = s.patch.clean;
       }
 
   pub spot_read : (d : Cell) → get_or cells at.target d ≡ cell_of l t
@@ -53,12 +58,12 @@ pub refused_by : {before cells rest : List Cell} {n : ℕ} (m : ℕ) {e : ApplyE
 refused_by {before} {cells} {rest} m {e} k r = subst (λ x. Refused before cells rest x e) k r
 
 -- the fields of the one in the place of the fields of the other
-module _ {cells : List Cell} {at : Meeting} {used : ℕ} {p : List Cell} {l : Name} {h k : Head} {f g : Forest} {q rest : List Cell} (s : Spot cells at used p l (node h f) (node k g) q rest) (run old : Run) where
+module _ {cells : List Cell} {at : Meeting} {used : ℕ} {p : List Cell} {l : Name} {h k : Head} {f g : Forest} {q rest : List Cell} (s : Spot cells at used p l (node h f) (node k g) q rest) (run old : Range ℕ) where
   abbrev behind : List Cell
   behind = s.patch.rest ++ (encode l (node h f) ++ (q ++ rest))
 
-  pub switch_site : run.at ≡ at.patch + 1 → run.end ≡ at.patch + size (node k g) → old.at ≡ at.target + 1 → old.end ≡ at.target + size (node h f)
-      → Site cells at.target run old used p (cell_of l (node h f)) [] (encodes f) q rest (encodes g) behind
+  pub switch_site : run.start ≡ at.patch + 1 → run.end ≡ at.patch + size (node k g) → old.start ≡ at.target + 1 → old.end ≡ at.target + size (node h f)
+      → Parts cells at.target run old used p (cell_of l (node h f)) [] (encodes f) q rest (encodes g) behind
   switch_site a b c d =
       record {
         is = s.is;
@@ -86,12 +91,12 @@ encodes_last : (l : Name) (u : Tree) (f : Forest) → encodes (add_last l u f) �
 encodes_last l u empty = append-nil (encode l u)
 encodes_last l u (more m t f) = ap (λ x. encode m t ++ x) (encodes_last l u f) ∙ sym (append_assoc (encode m t) (encodes f) (encode l u))
 
-module _ {cells : List Cell} {at : Meeting} {used : ℕ} {p : List Cell} {l : Name} {h : Head} {f : Forest} {u : Tree} {q rest : List Cell} (s : Spot cells at used p l (node h f) u q rest) (run old : Run) where
+module _ {cells : List Cell} {at : Meeting} {used : ℕ} {p : List Cell} {l : Name} {h : Head} {f : Forest} {u : Tree} {q rest : List Cell} (s : Spot cells at used p l (node h f) u q rest) (run old : Range ℕ) where
   abbrev beyond : List Cell
   beyond = s.patch.rest ++ (encode l (node h f) ++ (q ++ rest))
 
-  pub extend_site : run.at ≡ at.patch → run.end ≡ at.patch + size u → old.at ≡ at.target + size (node h f) → old.end ≡ at.target + size (node h f)
-      → Site cells at.target run old used p (cell_of l (node h f)) (encodes f) [] q rest (encode s.patch.label u) beyond
+  pub extend_site : run.start ≡ at.patch → run.end ≡ at.patch + size u → old.start ≡ at.target + size (node h f) → old.end ≡ at.target + size (node h f)
+      → Parts cells at.target run old used p (cell_of l (node h f)) (encodes f) [] q rest (encode s.patch.label u) beyond
   extend_site a b c d =
       record {
         is = s.is;
@@ -115,3 +120,18 @@ module _ {cells : List Cell} {at : Meeting} {used : ℕ} {p : List Cell} {l : Na
         frees = omega (arith, r.frees, length-encode m u);
         used_is = r.used_is;
       }
+
+-- the same, as one record
+abbrev pub placed_site : {cells : List Cell} {used : ℕ} {at : Meeting} {t u : Tree} {x : Cell} {f o copied after : List Cell} (s : Placed cells used at t u) (run old : Range ℕ) → Parts cells at.target run old used s.front x f o s.behind s.free copied after → Site cells used at.target run old
+placed_site {cells} {used} {at} {t} {u} {x} {f} {o} {copied} {after} s run old k =
+    record {
+      front = s.front;
+      cell = x;
+      before = f;
+      there = o;
+      behind = s.behind;
+      free = s.free;
+      copied = copied;
+      after = after;
+      parts = k;
+    }

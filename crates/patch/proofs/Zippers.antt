@@ -1,22 +1,23 @@
 -- A target with a focus: a node around it filled, a fault that goes up, and what lies in the focus.
-use Rattle.std.proofs.Common.{◌≡◌, ℕ, suc, ◌+◌, ◌-◌, ◌≤◌, true, List, [], ◌∷◌, ◌++◌, length, drop, set, sym, refl, ap, ◌∙◌, ap₂, append_assoc, arith, length-append}
+use Rattle.std.proofs.Common.{◌≡◌, ℕ, suc, ◌+◌, ◌<◌, ◌≤◌, true, List, [], ◌∷◌, ◌++◌, length, drop, set, sym, refl, ap, ◌∙◌, subst, ap₂, append_assoc, arith, length-append}
 use lib.Seq.{set_at, drop-append-le}
+use Rattle.trees.specs.Name.{Name, distinct}
 use Rattle.std.proofs.lemmas.List.{append-nil}
-use Rattle.names.specs.Names.{spelled}
-use Rattle.trees.specs.Name.{Name}
-use Rattle.trees.specs.Tree.{Tree, node, count, height}
+use Rattle.trees.specs.Tree.{Tree, node, count, size, sizes, sound}
 use Rattle.trees.specs.Place.{change_at}
 use Rattle.trees.specs.Apply.{Walked, Fault, ended, done, stopped, below, field_then, within_node, apply_within}
-use Rattle.cells.specs.Heads.{head_value}
 use Rattle.cells.specs.declared.types.Cell.{Cell}
-use Rattle.cells.specs.Layout.{encode, tidy, Lies}
+use Rattle.cells.specs.Layout.{encode, cell_of, Lies, LieAll}
 use Rattle.cells.proofs.Changes.{count_change}
 use Rattle.patch.specs.declared.errors.ApplyError.{ApplyError}
 use Rattle.patch.specs.declared.errors.ApplyError.TheVariants.{MismatchedKinds, MismatchedTypes, Room}
 use Rattle.patch.specs.declared.frames.Frame.{Frame}
 use Rattle.patch.specs.Manners.{onto}
-use Rattle.patch.specs.Walk.{Open, after, resume, label, pre, post, Holds, Fits, IsHeld, Goes, way, fault_of, IsEnded}
-use Rattle.patch.proofs.Bounds.{heights_change, tidy_change}
+use Rattle.patch.specs.declared.frames.Ends.{Ends}
+use Rattle.patch.specs.Rows.{onward}
+use Rattle.patch.specs.Walk.{Open, after, resume, label, pre, post, Holds, Past, Fits, IsHeld, Finished, Within, way, fault_of, Stopped}
+use Rattle.patch.proofs.Bounds.{sane_change}
+use Rattle.patch.proofs.Places.{labels_change, before_next, from_below}
 
 -- what lies in the front lies in the whole
 pub drop_beyond : {base : List Cell} {at : ℕ} {u : Tree} (rest : List Cell) (a : Lies base at u) → drop at (base ++ rest) ≡ encode a.label u ++ (a.rest ++ rest)
@@ -30,15 +31,13 @@ lies_beyond {base} {at} {u} rest a =
       is = drop_beyond rest a;
       begins = omega (arith, a.begins, length-append base rest);
       within = omega (arith, a.within, length-append base rest);
-      named = a.named;
-      clean = a.clean;
     }
 
 -- a node in the focus with a tree for its child, or that tree in the focus
 pub filled : (base : List Cell) (l : Name) (os : List Open) (fr : Frame) (o : Open) (t : Tree) (X : List Cell) → Fits base l os fr o
     → pre l os ++ (encode (label l os) (node o.head (change_at o.j (λ _. t) o.children)) ++ X) ≡ pre l (o ∷ os) ++ (encode (label l (o ∷ os)) t ++ (o.back ++ X))
 filled base l os fr o t X k =
-    let c : ℕ → Cell = λ n. record { label = spelled (label l os); head = head_value o.head; children = n } in
+    let c : ℕ → Cell = λ n. record { label = label l os; head = o.head; children = n } in
     ap₂ (λ (n : ℕ) (ys : List Cell). pre l os ++ (c n ∷ (ys ++ X))) (count_change (λ _. t) o.children o.j) (k.splits t)
     ∙ regroup (pre l os) (c (count o.children)) o.front (encode (label l (o ∷ os)) t) o.back X
   where
@@ -64,10 +63,10 @@ gone_up base l (fr ∷ frs) (o ∷ os) r e q h x =
     let s = after_stopped o r (fault_of e q) x in
     let r' = ended (node o.head (change_at o.j (λ _. r.left) o.children)) r.free (stopped (below o.i (fault_of e q))) in
     let up = gone_up base l frs os r' e (o.i ∷ q) h.1 (ap stopped (below_fault e o.i q)) in
-    let i : fr.index - 1 ≡ o.i = omega (arith, h.0.index_is) in (
+    let i : fr.index ≡ o.i = h.0.index_is in (
       ap (λ y. (resume os y).free) s ∙ up.0,
       ap (λ y. encode l (resume os y).left) s ∙ up.1 ∙ filled base l os fr o r.left (post os) h.0,
-      ap (λ y. (resume os y).ending) s ∙ up.2 ∙ ap (λ y. stopped (fault_of e y)) (sym (append_assoc (way frs) ((fr.index - 1) ∷ []) q ∙ ap (λ y. way frs ++ (y ∷ q)) i)),
+      ap (λ y. (resume os y).ending) s ∙ up.2 ∙ ap (λ y. stopped (fault_of e y)) (sym (append_assoc (way frs) (fr.index ∷ []) q ∙ ap (λ y. way frs ++ (y ∷ q)) i)),
     )
 
 regrouped : (P E Q R : List Cell) → P ++ (E ++ (Q ++ R)) ≡ (P ++ (E ++ Q)) ++ R
@@ -75,50 +74,75 @@ regrouped P E Q R = simp append_assoc
 
 -- so the walk ends with it
 pub stops : (base : List Cell) (l : Name) (frames : List Frame) (os : List Open) (r : Walked Tree) (e : ApplyError) (used : ℕ) (rest cells : List Cell) (a : Walked Tree) (q : List ℕ) → IsHeld base l frames os → r.ending ≡ stopped (fault_of e q) → r.free ≡ length rest
-    → Holds base l os r.left rest cells → used + length rest ≡ length cells → a ≡ resume os r → (frames' : List Frame) → way frames' ≡ way frames ++ q → IsEnded base l frames' used cells e a
-stops base l frames os r e used rest cells a q h x fr holds us c frames' w =
+    → Holds base l os r.left rest cells → used + length rest ≡ length cells → a ≡ resume os r → (frames' : List Frame) → way frames' ≡ way frames ++ q → length frames' ≤ 15 → Stopped base l frames' used cells e a
+stops base l frames os r e used rest cells a q h x fr holds us c frames' w n =
     let d = gone_up base l frames os r e q h x in
     record {
       rest = rest;
       holds = holds ∙ ap (λ y. base ++ y) (regrouped (pre l os) (encode (label l os) r.left) (post os) rest ∙ ap (λ y. y ++ rest) (sym (ap (λ (y : Walked Tree). encode l y.left) c ∙ d.1)));
       free_is = ap (λ (y : Walked Tree). y.free) c ∙ d.0 ∙ fr;
       used_is = us;
+      deep = n;
       ending_is = ap (λ (y : Walked Tree). y.ending) c ∙ d.2 ∙ ap (λ y. stopped (fault_of e y)) (sym w);
     }
 
--- a tree in the focus is done: the node around it goes on
-pub goes_up : (base : List Cell) (l : Name) (frames : List Frame) (os : List Open) (t : Tree) (levels used : ℕ) (rest cells : List Cell) (a : Walked Tree) → IsHeld base l frames os → levels + suc (length os) ≡ 16 → height t ≤ suc levels → tidy t ≡ true → Holds base l os t rest cells → used + length rest ≡ length cells → a ≡ resume os (ended t (length rest) done) → Goes base l frames used cells a
-goes_up base l [] [] t levels used rest cells a h d high clean holds us c = record { t = t; rest = rest; holds = holds; used_is = us; comes = c }
-goes_up base l [] (o ∷ os) t levels used rest cells a h d high clean holds us c = absurd h
-goes_up base l (fr ∷ frs) [] t levels used rest cells a h d high clean holds us c = absurd h
-goes_up base l (fr ∷ frs) (o ∷ os) t levels used rest cells a h d high clean holds us c =
-    let b = h.0.as_node in
+-- a tree in the focus is done: the node around it goes on, with the rows behind the tree
+pub goes_up : (base : List Cell) (l : Name) (fr : Frame) (frs : List Frame) (os : List Open) (t : Tree) (levels used : ℕ) (rest cells : List Cell) (a : Walked Tree) → IsHeld base l (fr ∷ frs) os → levels + suc (length os) ≡ 16 → sound (suc levels) t ≡ true → Holds base l os t rest cells → used + length rest ≡ length cells → a ≡ resume os (ended t (length rest) done)
+    → (e : Ends) → e.target ≡ length base + length (pre l os) + size t → Past os e.patch → Within base l (onward fr e) frs used cells a
+goes_up base l fr frs [] t levels used rest cells a h d s holds us c e end past = absurd h
+goes_up base l fr frs (o ∷ os) t levels used rest cells a h d s holds us c e end past =
+    let k = h.0 in
+    let b = k.as_node in
     let f = change_at o.j (λ _. t) o.children in
+    let n : suc levels ≡ o.levels = omega (arith, b.depth) in
+    let below = from_below k.row k.here in
+    let i : suc o.i ≡ fr.index + 1 = omega (arith, k.index_is) in
     record {
       os = os;
       levels = o.levels;
       h = o.head;
       f = f;
       g = o.others;
+      j = suc o.j;
       rest = rest;
       held = h.1;
       opened = record {
         place = b.place;
         depth = b.depth;
-        patch = b.patch;
+        patch = subst (λ m. LieAll base m o.others) (sym past) b.patch;
         counted = b.counted;
         small = b.small;
         few = b.few;
-        high = heights_change o.j t o.children o.levels (omega (arith, b.depth)) b.high;
-        clean = tidy_change o.j t o.children clean b.clean;
-        named = b.named;
-        called = b.called;
+        sane = sane_change o.levels o.head o.children b.sane o.j t (ap (λ m. sound m t) (sym n) ∙ s);
         sounds = b.sounds;
+        apart = λ e. ap distinct (labels_change o.j t o.children) ∙ b.apart e;
+        listed = b.listed;
+        past = subst (λ m. Past os (m + sizes o.others)) (sym past) b.past;
       };
-      holds = holds ∙ ap (λ x. base ++ x) (ap (λ x. pre l (o ∷ os) ++ (encode (label l (o ∷ os)) t ++ x)) (append_assoc o.back (post os) rest) ∙ sym (filled base l os fr o t (post os ++ rest) h.0));
+      row = record {
+        at_is = omega (arith, end, length-append (pre l os) (cell_of (label l os) (node o.head o.children) ∷ o.front), b.place, k.far, before_next o.j t o.children below);
+        count_is = omega (arith, k.here, k.row.count_is, count_change (λ _. t) o.children o.j);
+      };
+      even = λ e. omega (arith, k.even e, count_change (λ _. t) o.children o.j);
+      holds = holds ∙ ap (λ x. base ++ x) (ap (λ x. pre l (o ∷ os) ++ (encode (label l (o ∷ os)) t ++ x)) (append_assoc o.back (post os) rest) ∙ sym (filled base l os fr o t (post os ++ rest) k));
       used_is = us;
-      comes = c ∙ ap₂ (λ m i. resume os (within_node o.head (onto (apply_within o.levels) m i f o.others (length rest)))) (sym h.0.pairing_is) (sym h.0.index_is);
+      comes = c ∙ ap₂ (λ m i. resume os (within_node o.head (onto (apply_within o.levels) m i f o.others (length rest)))) (sym k.pairing_is) i;
     }
+
+-- the same, of a walk
+module _ (base : List Cell) (l : Name) {frames : List Frame} (fr : Frame) (frs : List Frame) (used : ℕ) (cells : List Cell) (a : Walked Tree) (e : frames ≡ fr ∷ frs) (ends : Ends) (d : Finished base l frames ends used cells a) where
+  around : IsHeld base l (fr ∷ frs) d.os
+  around = subst (λ (x : List Frame). IsHeld base l x d.os) e d.held
+
+  pub some_left : (0 < fr.row.count) × (0 < fr.next.count) × (fr.index + fr.next.count ≤ 65535)
+  some_left = go d.os around
+    where
+      go : (os : List Open) → IsHeld base l (fr ∷ frs) os → (0 < fr.row.count) × (0 < fr.next.count) × (fr.index + fr.next.count ≤ 65535)
+      go [] h = absurd h
+      go (o ∷ os) h = (h.0.here, h.0.some, omega (arith, h.0.some, h.0.as_node.small, h.0.as_node.few))
+
+  pub resumed : Within base l (onward fr ends) frs used cells a
+  resumed = goes_up base l fr frs d.os d.t d.levels used d.rest cells a around d.depth d.sane d.holds d.used_is d.comes ends d.end d.past
 
 -- the cell where the focus begins is written
 pub set_focus : (base P K X cells : List Cell) (c d : Cell) (at : ℕ) → cells ≡ base ++ (P ++ ((c ∷ K) ++ X)) → at ≡ length base + length P → set cells at d ≡ base ++ (P ++ ((d ∷ K) ++ X))

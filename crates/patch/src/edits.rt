@@ -1,21 +1,17 @@
-//! Copies of patch runs that take a place in the target.
-ghost use Rattle.std.specs.Prelude.{◌≡◌, ℕ, ◌<◌, ◌≤◌, List, length, MatchResult};
-ghost use Rattle.cells.specs.declared.types.Cell.{Cell as CellOf};
-ghost use Rattle.patch.specs.declared.errors.ApplyError.TheVariants.{Room};
-ghost use Rattle.patch.specs.Edits.{Site, IsRenewed, Refused, Spot, Became};
-ghost use Rattle.trees.specs.Tree.{Head as HeadOf, Tree, Forest, node, size, sizes};
+//! Copies of patch runs that take a place in the target: the cells are lent for writing, and the
+//! functions here lend them on for reading.
+ghost use Rattle.std.specs.Prelude.{◌≡◌, ◌+◌, ◌<◌, ◌≤◌, MatchResult};
+ghost use Rattle.trees.specs.declared.head.Head.{Head as HeadOf};
+ghost use Rattle.trees.specs.Tree.{Tree, Forest, node, size, sizes};
 ghost use Rattle.trees.specs.Place.{add_last};
+ghost use Rattle.cells.specs.Layout.{Lies};
+ghost use Rattle.patch.specs.declared.errors.ApplyError.TheVariants.{Room};
+ghost use Rattle.patch.specs.Edits.{Placed, Becomes, NoRoom, Site, Renews, Refuses};
 
 use crate::errors::ApplyError;
 use crate::frames::Meeting;
-use cells::{Cell, copy_run, end_of, exchange};
-
-/// A run of cells.
-#[derive(Clone, Copy)]
-pub struct Run {
-    pub at: usize,
-    pub end: usize,
-}
+use cells::{Cell, LEVELS, copy_run, end_of, exchange};
+use std::ops::Range;
 
 /// A copy of so many cells must find them free.
 fn fit(from: usize, to: usize) -> Result<(), ApplyError>
@@ -27,65 +23,69 @@ fn fit(from: usize, to: usize) -> Result<(), ApplyError>
     Ok(())
 }
 
-/// Puts a copy of a run in the place of an old one, whose cells are free then, and writes the node's cell.
+/// Puts a copy of a run in the place of an old one, whose cells are free then, and writes the
+/// node's cell; tells how many cells are used.
 fn renew(
     cells: &mut [Cell],
+    used: usize,
     target: usize,
     cell: Cell,
-    run: Run,
-    old: Run,
-    used: usize,
+    run: Range<usize>,
+    old: Range<usize>,
 ) -> Result<usize, ApplyError>
-    requires { (p : List CellOf) × (x : CellOf) × (f : List CellOf) × (o : List CellOf) × (q : List CellOf) × (rest : List CellOf) × (copied : List CellOf) × (after : List CellOf) × Site cells.old target run old used p x f o q rest copied after }
-    ensures { (p : List CellOf) (x : CellOf) (f o q rest copied after : List CellOf) → Site cells.old target run old used p x f o q rest copied after → MatchResult result (IsRenewed cells.new cell p f o q rest copied) (Refused cells.old cells.new rest (length copied)) }
+    requires { Site cells.old used target run old }
+    ensures { (s : Site cells.old used target run old) →
+        MatchResult result (Renews s cell cells.new) (Refuses s cells.new) }
 {
-    let size = run.end - run.at;
+    let size = run.end - run.start;
     fit(size, cells.len() - used)?;
-    copy_run(cells, run.at, used, size);
-    exchange(cells, old.at, used, used + size);
-    exchange(cells, old.at + size, old.end + size, used + size);
+    copy_run(cells, run.start, used, size);
+    exchange(cells, old.start, used, used + size);
+    exchange(cells, old.start + size, old.end + size, used + size);
     cells[target] = cell;
-    Ok(used + size - (old.end - old.at))
+    Ok(used + size - (old.end - old.start))
 }
 
-/// A patch node's fields, copied, take the place of the target's, with the patch's head.
-pub fn switch(cells: &mut [Cell], at: Meeting, used: usize) -> Result<usize, ApplyError>
-    requires { (p : List CellOf) × (l : List ℕ) × (h : HeadOf) × (k : HeadOf) × (f : Forest) × (g : Forest) × (q : List CellOf) × (rest : List CellOf) × Spot cells.old at used p l (node h f) (node k g) q rest }
-    ensures { (p : List CellOf) (l : List ℕ) (h k : HeadOf) (f g : Forest) (q rest : List CellOf) → Spot cells.old at used p l (node h f) (node k g) q rest → MatchResult result (Became cells.new p l (node k g) q rest (sizes g) (sizes f)) (Refused cells.old cells.new rest (sizes g)) }
+// `switch` and `extend` share `renew`; where the copy goes and what the cell becomes is each one's own.
+
+/// A patch node's fields, copied, take the place of the target's, with the patch's head; tells
+/// how many cells are used.
+pub fn switch(cells: &mut [Cell], used: usize, at: Meeting) -> Result<usize, ApplyError>
+    requires { (h : HeadOf) × (k : HeadOf) × (f : Forest) × (g : Forest) ×
+        Placed cells.old used at (node h f) (node k g) }
+    ensures { (h k : HeadOf) (f g : Forest) →
+        (s : Placed cells.old used at (node h f) (node k g)) →
+        MatchResult result (Becomes s (node k g) (sizes g) (sizes f) cells.new)
+        (NoRoom s (sizes g) cells.new) }
 {
     let old = cells[at.target];
     let new = cells[at.patch];
     let cell = Cell {
         label: old.label,
-        head: new.head,
-        children: new.children,
+        ..new
     };
-    let run = Run {
-        at: at.patch + 1,
-        end: end_of(cells, at.patch, 16),
-    };
-    let fields = Run {
-        at: at.target + 1,
-        end: end_of(cells, at.target, 16),
-    };
-    renew(cells, at.target, cell, run, fields, used)
+    let run = at.patch + 1..end_of(cells, at.patch, LEVELS);
+    let fields = at.target + 1..end_of(cells, at.target, LEVELS);
+    renew(cells, used, at.target, cell, run, fields)
 }
 
-/// A copy of a patch node becomes the target's last child.
-pub fn extend(cells: &mut [Cell], at: Meeting, used: usize) -> Result<usize, ApplyError>
-    requires { (p : List CellOf) × (l : List ℕ) × (h : HeadOf) × (f : Forest) × (u : Tree) × (q : List CellOf) × (rest : List CellOf) × Spot cells.old at used p l (node h f) u q rest }
-    ensures { (p : List CellOf) (l : List ℕ) (h : HeadOf) (f : Forest) (u : Tree) (q rest : List CellOf) → (s : Spot cells.old at used p l (node h f) u q rest) → MatchResult result (Became cells.new p l (node h (add_last s.patch.label u f)) q rest (size u) 0) (Refused cells.old cells.new rest (size u)) }
+/// A copy of a patch node becomes the target's last child, at the target's end; tells how many
+/// cells are used.
+pub fn extend(cells: &mut [Cell], used: usize, at: Meeting, end: usize) -> Result<usize, ApplyError>
+    requires placed { (h : HeadOf) × (f : Forest) × (u : Tree) ×
+        Placed cells.old used at (node h f) u }
+    requires end { (t : Tree) → Lies cells.old at.target t → end ≡ at.target + size t }
+    ensures { (h : HeadOf) (f : Forest) (u : Tree) →
+        (s : Placed cells.old used at (node h f) u) →
+        MatchResult result
+        (Becomes s (node h (add_last s.spot.patch.label u f)) (size u) 0 cells.new)
+        (NoRoom s (size u) cells.new) }
 {
     let old = cells[at.target];
     let cell = Cell {
-        label: old.label,
-        head: old.head,
         children: old.children + 1,
+        ..old
     };
-    let run = Run {
-        at: at.patch,
-        end: end_of(cells, at.patch, 16),
-    };
-    let end = end_of(cells, at.target, 16);
-    renew(cells, at.target, cell, run, Run { at: end, end }, used)
+    let run = at.patch..end_of(cells, at.patch, LEVELS);
+    renew(cells, used, at.target, cell, run, end..end)
 }

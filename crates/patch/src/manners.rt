@@ -1,17 +1,17 @@
 //! How the children of a patch node find those of its target.
 ghost use Rattle.std.specs.Prelude.{◌≡◌, true, MatchResult};
 ghost use Rattle.trees.specs.Tree.{same_kind};
-ghost use Rattle.cells.specs.Heads.{meant};
 ghost use Rattle.patch.specs.Manners.{manner_of, fields_of, IsMismatched};
 
 use crate::errors::ReflectKindMismatchError;
-use cells::Head;
 use trees::codes::VariantType;
+use trees::head::Head;
 
 /// Whose place a patch child takes.
-#[derive(Clone, Copy)]
+#[derive(Clone, Copy, Debug, Default, PartialEq, Eq)]
 pub enum Pairing {
     /// That of the child of its name; without one it is skipped.
+    #[default]
     ByName,
     /// That of the child at its position; beyond the last it is skipped.
     ByPlace,
@@ -20,7 +20,7 @@ pub enum Pairing {
 }
 
 /// What becomes of two nodes of one kind.
-#[derive(Clone, Copy)]
+#[derive(Clone, Copy, Debug, PartialEq, Eq)]
 pub enum Manner {
     Nothing,
     Switch,
@@ -29,11 +29,12 @@ pub enum Manner {
 
 /// A patch node must be of the target's kind.
 pub fn same_kind(patch: &Head, target: &Head) -> Result<(), ReflectKindMismatchError>
-    ensures { MatchResult result (λ _. same_kind (meant target.now) (meant patch.now) ≡ true) (λ e. IsMismatched (meant target.now) (meant patch.now) e) }
+    ensures { MatchResult result (λ _. same_kind target.now patch.now ≡ true)
+        (IsMismatched target.now patch.now) }
 {
     let from = patch.kind();
     let to = target.kind();
-    if to.number() != from.number() {
+    if to != from {
         return Err(ReflectKindMismatchError { from, to });
     }
     Ok(())
@@ -66,10 +67,14 @@ pub fn manner_of(patch: &Head, target: &Head) -> Manner
         Head::Struct => Manner::Pair(Pairing::ByName),
         Head::Tuple => Manner::Pair(Pairing::ByPlace),
         Head::List => Manner::Pair(Pairing::Extending),
-        Head::Enum(v) => match patch {
-            Head::Enum(w) => {
-                if v.name.same(&w.name) {
-                    return fields(w.kind, v.kind);
+        Head::Enum { kind, name, .. } => match patch {
+            Head::Enum {
+                kind: other,
+                name: its,
+                ..
+            } => {
+                if *name == *its {
+                    return fields(*other, *kind);
                 }
                 Manner::Switch
             }

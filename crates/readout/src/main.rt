@@ -1,7 +1,7 @@
-//! Reads two columns of leaves from standard input, a stamp tag first and then a row a line, and prints
-//! each row with the answer of the release rule, then how the two columns compare as wholes, and how many rows
-//! agree, differ or cannot be compared.
-//! Nothing is printed on standard output unless every line is understood.
+//! Reads two columns of leaves from standard input, a stamp tag first and then a row a line, and
+//! prints each row with the answer of the release rule, then how the two columns compare as wholes,
+//! and how many rows agree, differ or cannot be compared. Nothing is printed on standard output
+//! unless every line is understood.
 #![tactic(auto)]
 
 mod rows;

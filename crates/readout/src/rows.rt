@@ -1,5 +1,5 @@
-//! Row files: a line `stamp TAG`, then lines `NAME TAG:VALUE TAG:VALUE`. Blank lines and lines that begin
-//! with `#` are passed over. A tag is decimal; a value is decimal, or hexadecimal after `0x`.
+//! Row files: a line `stamp TAG`, then lines `NAME TAG:VALUE TAG:VALUE`. Blank lines and lines that
+//! begin with `#` are passed over. A tag is decimal; a value is decimal, or hexadecimal after `0x`.
 ghost use Rattle.std.specs.Prelude.{◌≡◌, true, IfOk};
 ghost use Rattle.rules.specs.Kinds.{addresses};
 
@@ -8,9 +8,11 @@ use names::Name;
 use rules::leaf::Leaf;
 use rules::number::AddressRule;
 use rules::rule::LeafRule;
-use std::alloc::{AllocError, AllocFailed, Global};
-use std::error::Error;
+use std::alloc::{AllocError, Global};
 use std::fmt;
+use std::num::ParseIntError;
+use std::str::FromStr;
+use thiserror::Error;
 use trees::codes::Refusal;
 
 /// The most rows of a file: two trees of so many fields fit on the shelf.
@@ -23,116 +25,107 @@ pub struct Sheet {
     pub rows: Vec<Row>,
 }
 
-/// What a line lacks.
-#[derive(Clone, Copy, Debug)]
-pub enum Want {
-    Stamp,
-    Fields,
-    Name,
+/// One of the two columns of leaves.
+#[derive(Clone, Copy, Debug, PartialEq, Eq, Hash)]
+pub enum Column {
     Declared,
     Found,
-    DeclaredTag,
-    FoundTag,
+}
+
+impl fmt::Display for Column {
+    fn fmt<W: fmt::Write>(&self, f: &mut fmt::Formatter<W>) -> fmt::Result {
+        f.write_str(match self {
+            Column::Declared => "declared",
+            Column::Found => "found",
+        })
+    }
+}
+
+/// What a line lacks.
+#[derive(Clone, Copy, Debug, PartialEq, Eq, Hash, Error)]
+pub enum Want {
+    #[error("the word stamp and a tag from 0 to 65535")]
+    Stamp,
+    #[error("three fields: a name, the declared leaf and the found leaf")]
+    Fields,
+    #[error("a name of 1 to 32 bytes, each from 33 to 126")]
+    Name,
+    #[error("the {0} leaf as TAG:VALUE")]
+    Leaf(Column),
+    #[error("a tag from 1 to 3 in the {0} leaf")]
+    Tag(Column),
+    #[error("at most {most} rows", most = MOST_ROWS)]
+    Rows,
 }
 
 /// Why a row file is refused.
-#[derive(Debug, Drop)]
+#[derive(Debug, Drop, Error)]
 pub enum Fault {
-    Line(usize, Want),
+    #[error("line {line}: expected {want}")]
+    Line { line: usize, want: Want },
+    #[error("no line: expected {want}", want = Want::Stamp)]
     NoStamp,
-    /// A line past the most rows.
-    Rows(usize),
-    /// A call on the shelf, by the number of its refusal.
-    Shelf(u8),
-    Memory,
+    #[error("the shelf refused a call with {number}", number = u8::from(*.0))]
+    Shelf(#[from] Refusal),
+    #[error("no memory")]
+    Memory(#[from(alloc)] AllocError),
 }
 
-impl From<Refusal> for Fault {
-    fn from(refusal: Refusal) -> Fault {
-        Fault::Shelf(refusal.number())
+/// Why a text is no leaf.
+#[derive(Debug, Drop, Error)]
+pub enum FieldError {
+    #[error("no colon")]
+    NoColon,
+    #[error("the tag or the value is no number")]
+    Number(#[from] ParseIntError),
+}
+
+/// A leaf as text, `TAG:VALUE`.
+#[derive(Clone, Copy)]
+pub struct Field(pub Leaf);
+
+impl FromStr for Field {
+    type Err = FieldError;
+
+    fn from_str(text: &str) -> Result<Field, FieldError> {
+        let (tag, value) = text.split_once(':').ok_or(FieldError::NoColon)?;
+        let value = match value.strip_prefix("0x") {
+            Some(digits) => u64::from_str_radix(digits, 16)?,
+            None => value.parse()?,
+        };
+        Ok(Field(Leaf {
+            tag: tag.parse()?,
+            value,
+        }))
     }
 }
 
-impl From<AllocError> for Fault {
-    fn from(_: AllocError) -> Fault {
-        Fault::Memory
-    }
-}
-
-impl<T: Drop> From<AllocFailed<T>> for Fault {
-    fn from(_: AllocFailed<T>) -> Fault {
-        Fault::Memory
-    }
-}
-
-impl fmt::Display for Want {
+impl fmt::Display for Field {
     fn fmt<W: fmt::Write>(&self, f: &mut fmt::Formatter<W>) -> fmt::Result {
-        match self {
-            Want::Stamp => write!(f, "the word stamp and a tag from 0 to 65535"),
-            Want::Fields => write!(
-                f,
-                "three fields: a name, the declared leaf and the found leaf"
-            ),
-            Want::Name => write!(f, "a name of 1 to 32 bytes, each from 33 to 126"),
-            Want::Declared => write!(f, "the declared leaf as TAG:VALUE"),
-            Want::Found => write!(f, "the found leaf as TAG:VALUE"),
-            Want::DeclaredTag => write!(f, "a tag from 1 to 3 in the declared leaf"),
-            Want::FoundTag => write!(f, "a tag from 1 to 3 in the found leaf"),
-        }
+        let Field(Leaf { tag, value }) = *self;
+        write!(f, "{tag}:0x{value:016x}")
     }
-}
-
-impl fmt::Display for Fault {
-    fn fmt<W: fmt::Write>(&self, f: &mut fmt::Formatter<W>) -> fmt::Result {
-        match self {
-            Fault::Line(line, want) => write!(f, "line {line}: expected {want}"),
-            Fault::NoStamp => write!(
-                f,
-                "no line: expected the word stamp and a tag from 0 to 65535"
-            ),
-            Fault::Rows(line) => write!(f, "line {line}: expected at most {MOST_ROWS} rows"),
-            Fault::Shelf(number) => write!(f, "the shelf refused a call with {number}"),
-            Fault::Memory => write!(f, "no memory"),
-        }
-    }
-}
-
-impl Error for Fault {}
-
-/// The number that the text stands for, decimal or hexadecimal.
-fn read_value(text: &str) -> Option<u64> {
-    match text.strip_prefix("0x") {
-        Some(digits) => u64::from_str_radix(digits, 16).ok(),
-        None => text.parse::<u64>().ok(),
-    }
-}
-
-/// The leaf that the text stands for.
-fn read_leaf(text: &str) -> Option<Leaf> {
-    let (tag, value) = text.split_once(':')?;
-    Some(Leaf {
-        tag: tag.parse::<u16>().ok()?,
-        value: read_value(value)?,
-    })
 }
 
 /// The leaf of a column, which the address rule admits.
-fn read_column(text: &str, want: Want, tag: Want) -> Result<Leaf, Want>
-    ensures { IfOk result (λ p. addresses.admits p ≡ true) }
+fn read_column(text: &str, column: Column) -> Result<Leaf, Want>
+    ensures { IfOk result (λ leaf. addresses.admits leaf ≡ true) }
 {
-    let Some(leaf) = read_leaf(text) else {
-        return Err(want);
+    let Ok(Field(leaf)) = text.parse() else {
+        return Err(Want::Leaf(column));
     };
     if AddressRule.admits(leaf) {
         Ok(leaf)
     } else {
-        Err(tag)
+        Err(Want::Tag(column))
     }
 }
 
-/// The row of a line, whose leaves the address rule admits.
+/// The row of a line, whose leaves the address rule admits. No FromStr: the type is another
+/// crate's.
 fn read_row(line: &str) -> Result<Row, Want>
-    ensures { IfOk result (λ row. (addresses.admits row.declared ≡ true) × (addresses.admits row.found ≡ true)) }
+    ensures declared { IfOk result (λ row. addresses.admits row.declared ≡ true) }
+    ensures found { IfOk result (λ row. addresses.admits row.found ≡ true) }
 {
     let mut words = line.split_whitespace();
     let (Some(name), Some(declared), Some(found), None) = (
@@ -143,15 +136,10 @@ fn read_row(line: &str) -> Result<Row, Want>
     ) else {
         return Err(Want::Fields);
     };
-    let Some(name) = Name::new(name.as_bytes()) else {
-        return Err(Want::Name);
-    };
-    let declared = read_column(declared, Want::Declared, Want::DeclaredTag)?;
-    let found = read_column(found, Want::Found, Want::FoundTag)?;
     Ok(Row {
-        name,
-        declared,
-        found,
+        name: Name::new(name.as_bytes()).ok_or(Want::Name)?,
+        declared: read_column(declared, Column::Declared)?,
+        found: read_column(found, Column::Found)?,
     })
 }
 
@@ -164,44 +152,34 @@ fn read_stamp(line: &str) -> Result<u16, Want> {
     if word != "stamp" {
         return Err(Want::Stamp);
     }
-    match tag.parse::<u16>() {
-        Ok(tag) => Ok(tag),
-        Err(_) => Err(Want::Stamp),
-    }
-}
-
-/// Whether a line has nothing to read.
-fn is_blank(line: &str) -> bool {
-    line.is_empty() || line.starts_with('#')
+    tag.parse().map_err(|_| Want::Stamp)
 }
 
 /// The whole file, or the first line that is not understood.
-pub fn read(heap: Global, text: &str) -> Result<Sheet, Fault> {
-    let mut stamp: Option<u16> = None;
-    let mut rows = Vec::new(heap);
-    for (i, line) in text.lines().enumerate() {
-        let number = i.saturating_add(1);
-        if is_blank(line) {
-            continue;
+pub fn read(alloc: Global, text: &str) -> Result<Sheet, Fault> {
+    let mut lines = text
+        .lines()
+        .enumerate()
+        .filter(|(_, line)| !line.is_empty() && !line.starts_with('#'));
+    let Some((i, line)) = lines.next() else {
+        return Err(Fault::NoStamp);
+    };
+    let stamp = read_stamp(line).map_err(|want| refused(i, want))?;
+    let mut rows = Vec::new(alloc);
+    for (i, line) in lines {
+        if rows.len() == MOST_ROWS {
+            return Err(refused(i, Want::Rows));
         }
-        if stamp.is_none() {
-            match read_stamp(line) {
-                Ok(tag) => stamp = Some(tag),
-                Err(want) => return Err(Fault::Line(number, want)),
-            }
-        } else {
-            if rows.len() == MOST_ROWS {
-                return Err(Fault::Rows(number));
-            }
-            match read_row(line) {
-                Ok(row) => rows.push(row)?,
-                Err(want) => return Err(Fault::Line(number, want)),
-            }
-        }
+        rows.push(read_row(line).map_err(|want| refused(i, want))?)?;
     }
-    match stamp {
-        Some(stamp) => Ok(Sheet { stamp, rows }),
-        None => Err(Fault::NoStamp),
+    Ok(Sheet { stamp, rows })
+}
+
+/// What is said of the line with so many before it.
+fn refused(before: usize, want: Want) -> Fault {
+    Fault::Line {
+        line: before.saturating_add(1),
+        want,
     }
 }
 

@@ -1,13 +1,14 @@
-//! The two columns as two Struct trees on a shelf, a field a row, and the release compare of the whole.
+//! The two columns as two Struct trees on a shelf, a field a row, and the release compare of the
+//! whole.
 use crate::rows::{Fault, Sheet};
-use cells::Cell;
 use columns::release::Release;
 use columns::{Row, release};
+use lending::with_shelf;
 use rules::assemblies;
 use rules::leaf::Leaf;
 use shelf::Shelf;
 use std::alloc::Global;
-use trees::codes::Refusal;
+use trees::codes::{Refusal, Shape};
 
 /// The cells of the shelf, enough for two trees of as many fields as a row file may have rows.
 const CELLS: usize = 4096;
@@ -17,8 +18,6 @@ const DECLARED: usize = 0;
 const FOUND: usize = 1;
 
 const FIELD: usize = 2;
-/// The code of a Struct.
-const STRUCT: u8 = 1;
 
 /// Puts a leaf into a tree under the row's name; a field of that name is replaced.
 fn put(shelf: &mut Shelf, stamp: u16, slot: usize, row: &Row, leaf: Leaf) -> Result<(), Refusal> {
@@ -28,8 +27,8 @@ fn put(shelf: &mut Shelf, stamp: u16, slot: usize, row: &Row, leaf: Leaf) -> Res
 
 /// Builds the two trees of the sheet.
 fn build(shelf: &mut Shelf, sheet: &Sheet) -> Result<(), Refusal> {
-    shelf.node(DECLARED, STRUCT, &[], 0)?;
-    shelf.node(FOUND, STRUCT, &[], 0)?;
+    shelf.node(DECLARED, Shape::Struct.into(), &[], 0)?;
+    shelf.node(FOUND, Shape::Struct.into(), &[], 0)?;
     for row in sheet.rows.iter() {
         put(shelf, sheet.stamp, DECLARED, row, row.declared)?;
         put(shelf, sheet.stamp, FOUND, row, row.found)?;
@@ -38,18 +37,18 @@ fn build(shelf: &mut Shelf, sheet: &Sheet) -> Result<(), Refusal> {
 }
 
 /// How the declared tree and the found one compare.
-pub fn compare(heap: Global, sheet: &Sheet) -> Result<Release, Fault> {
-    let mut cells = vec![in heap; Cell::VACANT; CELLS]?;
-    let mut saved = vec![in heap; Cell::VACANT; CELLS]?;
-    let mut shelf = Shelf::open(cells.as_mut_slice(), saved.as_mut_slice());
-    build(&mut shelf, sheet)?;
-    Ok(release::compare_release(&shelf, sheet.stamp, DECLARED, FOUND)?)
+pub fn compare(alloc: Global, sheet: &Sheet) -> Result<Release, Fault> {
+    with_shelf(alloc, CELLS, |shelf| {
+        build(shelf, sheet)?;
+        Ok(release::compare_release(shelf, sheet.stamp, DECLARED, FOUND)?)
+    })
 }
 
 #[cfg(test)]
 mod tests {
     use super::*;
-    use crate::{rows, show};
+    use crate::rows;
+    use rules::words::{Ordered, Truth};
     use std::test::Fail;
 
     const WHOLES: [(&str, &str, &str); 6] = [
@@ -70,8 +69,8 @@ mod tests {
         for (text, equal, order) in WHOLES.iter() {
             let sheet = rows::read(rt.alloc(), text)?;
             let whole = compare(rt.alloc(), &sheet)?;
-            assert!(rt; show::equality(whole.equal) == *equal);
-            assert!(rt; show::ordering(whole.order) == *order);
+            assert!(rt; Truth(whole.equal).to_string(rt.alloc())?.as_str() == *equal);
+            assert!(rt; Ordered(whole.order).to_string(rt.alloc())?.as_str() == *order);
         }
         Ok(())
     }

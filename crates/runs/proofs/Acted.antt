@@ -1,34 +1,39 @@
--- What a record's call comes to.
-use Rattle.std.proofs.Common.{◌≡◌, ℕ, eqb, ap, ◌∙◌}
-use Rattle.std.proofs.lemmas.Bool.{cond-false, ne_eqb}
+-- What a call comes to.
+use Rattle.std.specs.Prelude.{Ok, Err, Result, MatchResult, IsOkAnd, IsErrAnd}
+use Rattle.std.proofs.Common.{◌≡◌, ℕ, List, [], sym, ap, ◌∙◌}
 use Rattle.rules.specs.Meaning.{Meaning}
+use Rattle.trees.specs.declared.codes.Refusal.{Refusal}
 use Rattle.trees.specs.State.{State}
-use Rattle.trees.specs.Calls.{Call, Answer, index_of}
+use Rattle.trees.specs.Calls as calls
 use Rattle.trees.specs.Play.{step}
-use Rattle.script.specs.declared.answer.Reply.{Reply}
-use Rattle.script.specs.declared.record.Record.{Record}
-use Rattle.script.specs.Records.{ask_by, call_by, path_of, name_of}
-use Rattle.script.specs.Answers.{reply_of}
+use Rattle.script.specs.declared.answer.Value.{Value}
+use Rattle.script.specs.declared.answer.Stopped.{Stopped}
+use Rattle.script.specs.Answers.{Fields, fields_of, shown, bare, reply_of}
+use Rattle.shelf.specs.declared.patching.Stop.{Stop}
+use Rattle.shelf.specs.Answers.{told}
+use Rattle.shelf.specs.Stops.{stopping, IsShort}
+use Rattle.shelf.specs.Does.{DoesUnder}
+use Rattle.runs.specs.Replies.{Replies}
 
--- the state and the reply are those of the call c, since they are those of d, which is the same
-pub acted : {r : Reply} {a : Answer} {t : State} (m : Meaning) (s : State) {c d : Call} → d ≡ c → t ≡ (step m s d).state → a ≡ (step m s d).answer → r ≡ reply_of a → (t ≡ (step m s c).state) × (r ≡ reply_of (step m s c).answer)
-acted m s e x y z = (x ∙ ap (λ k. (step m s k).state) e, z ∙ ap reply_of (y ∙ ap (λ k. (step m s k).answer) e))
+-- a call is replied to as the theory says where one that is the same does as it says
+pub acted : {r : Fields} {a : calls.Answer} {s t : State} {m : Meaning} {c d : calls.Call} → c ≡ d → DoesUnder m d s t a → r ≡ reply_of a → Replies m c s t r
+acted {s} {m} e x z = record { state = x.state ∙ sym (ap (λ k. (step m s k).state) e); replied = z ∙ ap reply_of (x.answers ∙ sym (ap (λ k. (step m s k).answer) e)) }
 
--- a number that is none of 1 to 11 asks a question
-pub asks : (n : ℕ) (r : Record) → (n ≡ 1 → ⊥) → (n ≡ 2 → ⊥) → (n ≡ 3 → ⊥) → (n ≡ 4 → ⊥) → (n ≡ 5 → ⊥) → (n ≡ 6 → ⊥) → (n ≡ 7 → ⊥) → (n ≡ 8 → ⊥) → (n ≡ 9 → ⊥) → (n ≡ 10 → ⊥) → (n ≡ 11 → ⊥) → call_by n r ≡ ask_by n r
-asks n r a b c d e f g h i j k =
-    cond-false (eqb n 1) _ _ (ne_eqb n 1 a)
-    ∙ cond-false (eqb n 2) _ _ (ne_eqb n 2 b)
-    ∙ cond-false (eqb n 3) _ _ (ne_eqb n 3 c)
-    ∙ cond-false (eqb n 4) _ _ (ne_eqb n 4 d)
-    ∙ cond-false (eqb n 5) _ _ (ne_eqb n 5 e)
-    ∙ cond-false (eqb n 6) _ _ (ne_eqb n 6 f)
-    ∙ cond-false (eqb n 7) _ _ (ne_eqb n 7 g)
-    ∙ cond-false (eqb n 8) _ _ (ne_eqb n 8 h)
-    ∙ cond-false (eqb n 9) _ _ (ne_eqb n 9 i)
-    ∙ cond-false (eqb n 10) _ _ (ne_eqb n 10 j)
-    ∙ cond-false (eqb n 11) _ _ (ne_eqb n 11 k)
+-- the reply to a call that answers with X, which say tells
+pub told_reply : {X : Type 0} (say : X → calls.Value) (res : Result X Refusal) (r : Result Value Stopped) →
+    MatchResult res (λ x. IsOkAnd r (λ v. v ≡ shown (say x))) (λ e. IsErrAnd r (λ s. s ≡ bare e)) → fields_of r ≡ reply_of (told say [] res)
+told_reply say (Ok x) (Ok v) h = ap (λ w. fields_of (Ok w)) h
+told_reply say (Ok x) (Err s) h = absurd h
+told_reply say (Err e) (Ok v) h = absurd h
+told_reply say (Err e) (Err s) h = ap (λ t. fields_of (Err t)) h
 
--- a question that is none of 12 to 14 is for the position of a name
-pub asks_place : (n : ℕ) (r : Record) → (n ≡ 12 → ⊥) → (n ≡ 13 → ⊥) → (n ≡ 14 → ⊥) → ask_by n r ≡ index_of r.slot (path_of r) (name_of r)
-asks_place n r a b c = cond-false (eqb n 12) _ _ (ne_eqb n 12 a) ∙ cond-false (eqb n 13) _ _ (ne_eqb n 13 b) ∙ cond-false (eqb n 14) _ _ (ne_eqb n 14 c)
+-- the reply to a call that lays a patch
+pub stopped_reply : (res : Result (Unit {0}) Stop) (q : Result (Unit {0}) Stopped) (r : Result Value Stopped) (row : List ℕ) → IsShort res →
+    MatchResult res (λ x. q ≡ Ok x) (λ e. IsErrAnd q (λ s. (w : List ℕ) → IsShort (Err e) → fields_of (Err s) ≡ reply_of (stopping (Err e) w))) →
+    MatchResult q (λ x. IsOkAnd r (λ v. v ≡ shown calls.nothing)) (λ e. IsErrAnd r (λ s. s ≡ e)) → fields_of r ≡ reply_of (stopping res row)
+stopped_reply (Ok x) (Ok y) (Ok v) row z g h = ap (λ w. fields_of (Ok w)) h
+stopped_reply (Ok x) (Ok y) (Err s) row z g h = absurd h
+stopped_reply (Ok x) (Err y) r row z g h = cc
+stopped_reply (Err e) (Ok y) r row z g h = absurd g
+stopped_reply (Err e) (Err y) (Ok v) row z g h = absurd h
+stopped_reply (Err e) (Err y) (Err s) row z g h = ap (λ t. fields_of (Err t)) h ∙ g row z

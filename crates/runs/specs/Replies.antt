@@ -1,14 +1,12 @@
--- The replies of accepted and refused calls that have no fault.
-use Rattle.std.specs.Prelude.{Some, None}
-use Rattle.trees.specs.declared.codes.Refusal.{Refusal}
-use Rattle.script.specs.declared.answer.Value.{Value}
-use Rattle.script.specs.declared.answer.Value.TheVariants.{Nothing}
-use Rattle.script.specs.declared.answer.Reply.{Reply}
+-- The replies of calls.
+use Rattle.std.specs.Prelude.{◌≡◌}
+use Rattle.rules.specs.Meaning.{Meaning}
+use Rattle.trees.specs.State.{State}
+use Rattle.trees.specs.Calls.{Call}
+use Rattle.trees.specs.Play.{step}
+use Rattle.script.specs.Answers.{Fields, reply_of}
 
--- an accepted call, by its value
-abbrev pub accepted : Value → Reply
-accepted value = record { refusal = None; from = 0; to = 0; path_len = 0; value = value }
-
--- a refused call
-abbrev pub refused : Refusal → Reply
-refused refusal = record { refusal = Some refusal; from = 0; to = 0; path_len = 0; value = Nothing }
+-- under a rule, the call leads from the old state to the new one, and is replied to, as the theory says
+pub record Replies (m : Meaning) (c : Call) (old new : State) (reply : Fields) : Type 0 where
+  pub state : new ≡ (step m old c).state
+  pub replied : reply ≡ reply_of (step m old c).answer

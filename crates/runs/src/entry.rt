@@ -1,5 +1,4 @@
-//! The entry for scripts, which crate `runs_c` exports to C: a script and its answers as byte slices, 256 cells, the
-//! number rule.
+//! What the entry for C calls: a script and its answers as byte slices, 256 cells, the number rule.
 ghost use Rattle.std.specs.Prelude.{◌≡◌, length, if◌then◌else◌};
 ghost use Rattle.rules.specs.Kinds.{numbers};
 ghost use Rattle.trees.specs.State.{opened};
@@ -12,13 +11,16 @@ use rules::assemblies;
 use shelf::Shelf;
 
 /// The cells of the shelf that scripts are played on.
-const CELLS: usize = 256;
+pub const CELLS: usize = 256;
 
-/// Plays a script on an empty shelf of 256 cells under the number rule. 0: the answers are written, and what lies
+/// Plays a script on an empty shelf of 256 cells under the number rule, for C: no heap, and a number. 0: the answers are written, and what lies
 /// past them stays; 1: the script is unfit or the answers have too little room, and nothing is written.
 pub fn run_script(script: &[u8], answers: &mut [u8]) -> u32
     ensures result { result ≡ (if fit script.now (length answers.old) then 0 else 1) }
-    ensures bytes { answers.new ≡ (if fit script.now (length answers.old) then answered numbers (opened 256) script.now answers.old else answers.old) }
+    ensures bytes { answers.new
+        ≡ (if fit script.now (length answers.old)
+        then answered numbers (opened 256) script.now answers.old
+        else answers.old) }
     ensures laws { AgreeAfterRuns }
 {
     let mut cells = [Cell::VACANT; CELLS];

@@ -1,30 +1,30 @@
 //! Playing a whole script.
-ghost use Rattle.std.specs.Prelude.{◌≡◌, ◌*◌, ◌≤◌, length, if◌then◌else◌, Ok, Err};
+ghost use Rattle.std.specs.Prelude.{◌≡◌, ◌*◌, ◌≤◌, true, length, if◌then◌else◌, Ok, Err};
 ghost use Rattle.trees.specs.declared.codes.Refusal.TheVariants.{Lent};
 ghost use Rattle.trees.specs.Play.{play};
 ghost use Rattle.trees.specs.Runs.{AgreeAfterRuns};
-ghost use Rattle.shelf.specs.State.{state};
-ghost use Rattle.script.specs.Scripts.{count, records, calls, fit, answered};
+ghost use Rattle.script.specs.Scripts.{count, records, calls, all_fit, fit, answered};
 
 use crate::acts::act;
 use rules::rule::LeafRule;
-use script::record::Record;
+use script::record::Call;
 use script::{answer, record, scripts};
 use shelf::Shelf;
 use trees::codes::Refusal;
 
 /// Plays the records of a script that is fit.
 fn play_records<R: LeafRule>(shelf: &mut Shelf<'_>, rule: &R, script: &[u8], answers: &mut [u8])
-    requires { 16 * count script.now ≤ length answers.old }
-    ensures trees { state shelf.new ≡ play (R.LeafRule.means rule.now) (state shelf.old) (calls (records script.now)) }
-    ensures bytes { answers.new ≡ answered (R.LeafRule.means rule.now) (state shelf.old) script.now answers.old }
+    requires fit { all_fit (records script.now) ≡ true }
+    requires room { 16 * count script.now ≤ length answers.old }
+    ensures trees { shelf.new ≡ play (R.means rule.now) shelf.old (calls (records script.now)) }
+    ensures bytes { answers.new ≡ answered (R.means rule.now) shelf.old script.now answers.old }
 {
-    let count = script.len() / record::SIZE;
-    for i in 0..count {
-        let asked = Record::read(&script[record::SIZE * i..record::SIZE * i + record::SIZE]);
-        let reply = act(shelf, rule, &asked);
-        let bytes = reply.bytes();
-        answers[answer::SIZE * i..answer::SIZE * i + answer::SIZE].copy_from_slice(&bytes);
+    // the part written goes by its index: what is written through chunks_exact_mut is not known afterwards
+    for (i, bytes) in script.chunks_exact(record::SIZE).enumerate() {
+        let reply = act(shelf, rule, &Call::read(bytes));
+        answers[answer::SIZE * i..answer::SIZE * i + answer::SIZE].copy_from_slice(&answer::bytes(
+            reply,
+        ));
     }
 }
 
@@ -39,8 +39,14 @@ pub fn play_script<R: LeafRule>(
     answers: &mut [u8],
 ) -> Result<(), Refusal>
     ensures result { result ≡ (if fit script.now (length answers.old) then Ok tt else Err Lent) }
-    ensures trees { state shelf.new ≡ (if fit script.now (length answers.old) then play (R.LeafRule.means rule.now) (state shelf.old) (calls (records script.now)) else state shelf.old) }
-    ensures bytes { answers.new ≡ (if fit script.now (length answers.old) then answered (R.LeafRule.means rule.now) (state shelf.old) script.now answers.old else answers.old) }
+    ensures trees { shelf.new
+        ≡ (if fit script.now (length answers.old)
+        then play (R.means rule.now) shelf.old (calls (records script.now))
+        else shelf.old) }
+    ensures bytes { answers.new
+        ≡ (if fit script.now (length answers.old)
+        then answered (R.means rule.now) shelf.old script.now answers.old
+        else answers.old) }
     ensures laws { AgreeAfterRuns }
 {
     if !scripts::is_fit(script, answers.len()) {

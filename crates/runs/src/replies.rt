@@ -1,105 +1,70 @@
 //! The results of calls as replies.
-ghost use Rattle.std.specs.Prelude.{◌≡◌, ℕ, List, []};
-ghost use Rattle.trees.specs.Calls.{truth, order, number};
-ghost use Rattle.board.specs.Answers.{plainly, told};
-ghost use Rattle.board.specs.Patching.{stopping};
-ghost use Rattle.script.specs.Answers.{reply_of};
-ghost use Rattle.runs.specs.Replies;
+ghost use Rattle.std.specs.Prelude.{◌≡◌, ℕ, min, List, Err, MatchResult, IsOkAnd, IsErrAnd};
+ghost use Rattle.shelf.specs.Stops.{fault_numbers, stopping, CellsFit, IsShort};
+ghost use Rattle.script.specs.Answers.{reply_of, fields_of};
 
-use script::answer::{Reply, Value};
+use patch::ApplyError;
+use script::answer::{Reply, Stopped, Value};
 use shelf::Stop;
-use std::cmp::Ordering;
 use trees::codes::Refusal;
 
-/// The reply of an accepted call.
-fn accepted(value: Value) -> Reply
-    ensures { result ≡ Replies.accepted value }
+/// The reply to a call, whatever it answers.
+pub(crate) fn reply<T: Into<Value>, E: Into<Stopped>>(res: Result<T, E>) -> Reply
+    ensures { MatchResult res
+        (λ answer. IsOkAnd result (T.converts answer))
+        (λ stop. IsErrAnd result (E.converts stop)) }
 {
-    Reply {
-        refusal: None,
-        from: 0,
-        to: 0,
-        path_len: 0,
-        value,
+    match res {
+        Ok(answer) => Ok(answer.into()),
+        Err(stop) => Err(stop.into()),
     }
 }
 
-/// The reply of a refused call.
-fn refused(refusal: Refusal) -> Reply
-    ensures { result ≡ Replies.refused refusal }
+/// A number of cells in an answer.
+fn short(n: usize) -> u16
+    ensures { result ≡ min n 65535 }
 {
-    Reply {
-        refusal: Some(refusal),
-        from: 0,
-        to: 0,
-        path_len: 0,
-        value: Value::Nothing,
+    u16::try_from(n).unwrap_or(u16::MAX)
+}
+
+/// The length of a path in an answer.
+fn steps(n: usize) -> u8
+    ensures { result ≡ min n 255 }
+{
+    u8::try_from(n).unwrap_or(u8::MAX)
+}
+
+/// The refusal and the two numbers of a patch's fault.
+fn numbers(error: ApplyError) -> (Refusal, u16, u16)
+    ensures { CellsFit error → result ≡ fault_numbers error }
+{
+    match error {
+        ApplyError::MismatchedKinds(e) => (
+            Refusal::MismatchedKinds,
+            u16::from(u8::from(e.from)),
+            u16::from(u8::from(e.to)),
+        ),
+        ApplyError::MismatchedTypes { from, to } => (Refusal::MismatchedTypes, from, to),
+        ApplyError::Room { from, to } => (Refusal::Room, short(from), short(to)),
     }
 }
 
-/// Of a call that answers nothing.
-pub(crate) fn plain(given: Result<(), Refusal>) -> Reply
-    ensures { result ≡ reply_of (plainly given) }
+/// Why a patch was not laid, in the numbers of an answer; the row is no part of it. Shelf and answer are types of
+/// crates that do not know each other, so no crate may write this as a `From`.
+pub(crate) fn stopped(stop: Stop) -> Stopped
+    ensures { (row : List ℕ) → IsShort (Err stop)
+        → fields_of (Err result) ≡ reply_of (stopping (Err stop) row) }
 {
-    match given {
-        Ok(()) => accepted(Value::Nothing),
-        Err(refusal) => refused(refusal),
-    }
-}
-
-/// Of a call that answers true, false or none.
-pub(crate) fn truthful(given: Result<Option<bool>, Refusal>) -> Reply
-    ensures { result ≡ reply_of (told truth [] given) }
-{
-    match given {
-        Ok(answer) => accepted(Value::Truth(answer)),
-        Err(refusal) => refused(refusal),
-    }
-}
-
-/// Of a call that answers an order or none.
-pub(crate) fn ordered(given: Result<Option<Ordering>, Refusal>) -> Reply
-    ensures { result ≡ reply_of (told order [] given) }
-{
-    match given {
-        Ok(answer) => accepted(Value::Order(answer)),
-        Err(refusal) => refused(refusal),
-    }
-}
-
-/// Of a call that answers a number or none.
-pub(crate) fn numbered(given: Result<Option<u64>, Refusal>) -> Reply
-    ensures { result ≡ reply_of (told number [] given) }
-{
-    match given {
-        Ok(answer) => accepted(Value::Number(answer)),
-        Err(refusal) => refused(refusal),
-    }
-}
-
-/// Of a call that answers a position or none.
-pub(crate) fn placed(given: Result<Option<usize>, Refusal>) -> Reply
-    ensures { result ≡ reply_of (told number [] given) }
-{
-    match given {
-        Ok(Some(place)) => accepted(Value::Number(Some(place as u64))),
-        Ok(None) => accepted(Value::Number(None)),
-        Err(refusal) => refused(refusal),
-    }
-}
-
-/// Of a call that lays a patch; the row is no part of the reply.
-pub(crate) fn stopped(given: Result<(), Stop>) -> Reply
-    ensures { (row : List ℕ) → result ≡ reply_of (stopping given row) }
-{
-    match given {
-        Ok(()) => accepted(Value::Nothing),
-        Err(stop) => Reply {
-            refusal: Some(stop.refusal),
-            from: stop.from,
-            to: stop.to,
-            path_len: stop.path_len,
-            value: Value::Nothing,
-        },
+    match stop {
+        Stop::Refused(refusal) => refusal.into(),
+        Stop::Fault(fault) => {
+            let (refusal, from, to) = numbers(fault.error);
+            Stopped {
+                refusal,
+                from,
+                to,
+                path_len: steps(fault.depth),
+            }
+        }
     }
 }

@@ -1,3 +1,16 @@
+pub mod Runs
+pub mod Spots
+pub mod Trades
+pub mod Overlays
 pub mod States
+pub mod Outcomes
+pub mod Labels
+pub mod Takes
+pub mod Shown
+pub mod Asks
+pub mod Faults
+pub mod Saves
+pub mod Stopped
+pub mod Wholes
 pub mod Answered
 pub mod Pops

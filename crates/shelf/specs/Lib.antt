@@ -1,2 +1,13 @@
+pub mod Known
 pub mod State
+pub mod Holds
+pub mod Tries
+pub mod Places
+pub mod Changes
+pub mod Questions
+pub mod Patching
+pub mod Does
+pub mod Answers
+pub mod Looks
+pub mod Stops
 pub mod Derived

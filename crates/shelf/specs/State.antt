@@ -1,8 +1,9 @@
--- The state of a shelf.
-use Rattle.trees.specs.State as theory
-use Rattle.board.proofs.Known.{known}
-use Rattle.shelf.specs.declared.wrap.Shelf.{Shelf}
+-- The state that a shelf holds.
+use Rattle.trees.specs.State.{State}
+use Rattle.shelf.specs.declared.rack.Rack.{Rack}
+use Rattle.shelf.specs.Holds.{Holds}
+use Rattle.shelf.specs.Known.{known}
 
--- what a shelf holds
-unfoldable pub state : Shelf → theory.State
-state s = (known s.ok).0
+-- the state that the cells are known to hold
+unfoldable pub state_of : {r : Rack} → ∥ ((s : State) × Holds r s) ∥₁ → State
+state_of ok = (known ok).0

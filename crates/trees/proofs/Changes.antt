@@ -2,7 +2,9 @@
 use Rattle.std.proofs.Common.{◌≡◌, ℕ, zero, suc, ◌+◌, ◌≤◌, Bool, true, false, not, ◌&&◌, List, [], ◌∷◌, ◌++◌, length, Some, None, Option, sym, refl, ap, ◌∙◌, subst, arith}
 use Rattle.std.proofs.lemmas.Bool.{and_parts, and_from}
 use Rattle.trees.specs.Name.{Name, absent, distinct, all_good, all_empty}
-use Rattle.trees.specs.Tree.{Head, leaf, struct, tuple, list, enum, Tree, node, Forest, empty, more, labels, at, each, height, heights, fits, sound, named, unnamed}
+use Rattle.trees.specs.declared.head.Head.{Head}
+use Rattle.trees.specs.declared.head.Head.TheVariants.{Leaf as leaf, Struct as struct, Tuple as tuple, List as list, Enum as enum}
+use Rattle.trees.specs.Tree.{Tree, node, Forest, empty, more, labels, at, each, height, heights, fits, sound, named, unnamed}
 use Rattle.trees.specs.declared.codes.VariantType.TheVariants.{Unit as unit, Tuple as tuple_like, Struct as struct_like}
 use Rattle.trees.proofs.Names.{absent_head, absent_tail, and_one, and_two, by_test, no, same_name_comm}
 use Rattle.names.specs.Names.{same_name, good_name}
@@ -11,7 +13,7 @@ use Rattle.trees.specs.Place.{find, change_at, change_in, add_last, insert_under
 
 -- levels
 
-each_mono : (p q : Tree → Bool) → ((t : Tree) → p t ≡ true → q t ≡ true) → (f : Forest) → each p f ≡ true → each q f ≡ true
+pub each_mono : (p q : Tree → Bool) → ((t : Tree) → p t ≡ true → q t ≡ true) → (f : Forest) → each p f ≡ true → each q f ≡ true
 each_mono p q h empty a = refl
 each_mono p q h (more l t f) a =
     let x = and_parts (p t) (each p f) a in

@@ -1,10 +1,11 @@
 -- The refusals of each call that its arguments and the shelf decide, in number order.
-use Rattle.std.specs.Prelude.{ℕ, suc, ◌+◌, Bool, true, false, if◌then◌else◌, not, ◌&&◌, ◌||◌, List, [], ◌∷◌, length, Some, None, Option, ◌==◌, nat_eq, nat_le, nat_lt}
+use Rattle.std.specs.Prelude.{◌≡◌, ℕ, suc, ◌+◌, Bool, true, false, if◌then◌else◌, not, ◌&&◌, ◌||◌, List, [], ◌∷◌, length, Some, None, Option, ◌==◌, nat_eq, nat_le, nat_lt}
 use Rattle.names.specs.Names.{good_name}
 use Rattle.rules.specs.Meaning.{Meaning}
 use Rattle.trees.specs.declared.codes.Refusal.{Refusal}
 use Rattle.trees.specs.declared.codes.Refusal.TheVariants.{Lent, Slot, Empty, Taken, Same, Path, Kind, Index, Name, Leaf, Depth, Room, MarkOpen, NoMark}
-use Rattle.trees.specs.Tree.{Head, Tree, node, Forest, empty, code, named, unnamed, count, height, most_levels}
+use Rattle.trees.specs.declared.head.Head.{Head}
+use Rattle.trees.specs.Tree.{Tree, node, Forest, empty, code, named, unnamed, count, height, most_levels}
 use Rattle.trees.specs.Place.{find}
 use Rattle.trees.specs.State.{State, slot, nodes, free_cells, fit_sizes}
 use Rattle.trees.specs.Calls.{Call, new_leaf, new_node, insert, push, put_at, remove_at, set_variant, copy, drop_tree, lay, lay_whole, ask_equal, ask_compare, ask_hash, index_of, look, name_at, mark, keep, roll_back, Outcome, refused}
@@ -23,6 +24,11 @@ infix 70 ◌by◌
 abbrev pub unless : State → List ℕ → List Test → Outcome → Outcome
 unless s row [] o = o
 unless s row (t ∷ ts) o = if t.bad then refused s t.refusal row else unless s row ts o
+
+-- every test was passed
+abbrev pub Passed : List Test → Type 0
+Passed [] = Unit {0}
+Passed (t ∷ ts) = (t.bad ≡ false) × Passed ts
 
 -- a slot over 15
 abbrev pub over : ℕ → Bool

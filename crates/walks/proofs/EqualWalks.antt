@@ -1,70 +1,49 @@
--- The steps of the walk of `equal`, on the definitions alone.
-use Rattle.std.proofs.Common.{◌≡◌, ℕ, suc, ◌-◌, ◌<◌, ◌≤◌, Bool, true, false, cond, ◌&&◌, eqb, ◌⊎◌, List, [], ◌∷◌, length, get_or, Some, None, Option, sym, refl, ap, ◌∙◌, subst, ap₂, inl, inr, arith, eq-eqb, ne_eqb}
-use Rattle.names.specs.declared.Name.{Name as NameValue}
+-- The steps of the walk of `equal`.
+use Rattle.std.proofs.Common.{◌≡◌, ℕ, suc, ◌+◌, ◌-◌, ◌*◌, ◌<◌, max, Bool, true, false, cond, ◌&&◌, eqb, List, [], ◌∷◌, length, Some, None, Option, sym, refl, ap, ◌∙◌, subst, ap₂, arith, eq-eqb, mul_comm, add-mul, mul-pos}
+use native.Mathlib.Nat.{mul-add}
 use Rattle.std.proofs.lemmas.Bool.{and_parts}
-use Rattle.names.specs.Names.{good_name, spelled}
-use Rattle.rules.specs.declared.leaf.Leaf.{Leaf}
+use Rattle.names.specs.Names.{good_name}
 use Rattle.rules.specs.Meaning.{Meaning}
 use Rattle.trees.specs.declared.codes.VariantType.TheVariants.{Unit as unit, Tuple as tuple_like, Struct as struct_like}
-use Rattle.trees.specs.Name.{Name, distinct}
-use Rattle.trees.specs.Tree.{Head, leaf, struct, tuple, list, enum, Tree, node, Forest, empty, more, labels, count, named, under, each, fits, sound}
+use Rattle.trees.specs.declared.head.Head.{Head}
+use Rattle.trees.specs.declared.head.Head.TheVariants.{Leaf as leaf, Struct as struct, Tuple as tuple, List as list, Enum as enum}
+use Rattle.trees.specs.Tree.{Tree, node, Forest, empty, more, labels, count, named, under, fits, size, sizes, height, heights}
 use Rattle.trees.specs.Tests.{is_enum}
-use Rattle.trees.specs.Equal.{alike, while_true, equal_found, equal_by_name, equal_by_place, or_false, equal_leaf, equal_nodes, equal_within, equal}
-use Rattle.trees.proofs.Fields.{under_ok}
-use Rattle.cells.specs.Heads.{meant}
-use Rattle.cells.specs.Layout.{Lies, root, kids, tidy_name}
-use Rattle.cells.specs.Children.{IsKept}
-use Rattle.cells.specs.declared.types.Cell.{Cell}
-use Rattle.cells.specs.declared.children.Kids.{Kids}
-use Rattle.cells.proofs.Layouts.{lies_head, lies_count, lie_first, none_left}
-use Rattle.walks.specs.declared.equality.PairFrame.{PairFrame}
-use Rattle.walks.specs.declared.equality.PairTurn.{PairTurn}
-use Rattle.walks.specs.declared.equality.PairTurn.TheVariants.{Ask, Answered}
-use Rattle.walks.specs.Heads.{leaf_of, alike_values}
-use Rattle.walks.specs.Walk.{Owes, rank}
-use Rattle.walks.specs.EqualWalk.{over, sure, Fits, Makes, Stands, left, weight}
-use Rattle.walks.specs.Seeking.{There}
-use Rattle.walks.proofs.HeadLaws.{is_leaf, alike_there, count_there, named_apart, alike_named}
-use Rattle.walks.proofs.Made.{level, each_parts}
-use Rattle.walks.proofs.Rows.{Labels, Rests, first_tidy, both_ways}
-use Rattle.walks.proofs.Scans.{behind_all, behind_rest}
-use Rattle.walks.proofs.Walks.{owes_by, passed_up, done_falls}
+use Rattle.trees.specs.Equal.{alike, while_true, equal_found, equal_by_name, equal_by_place, or_false, equal_nodes, equal_within}
+use Rattle.cells.specs.Layout.{root, kids}
+use Rattle.std.specs.Prelude.{option_map, IfSome}
+use Rattle.cells.specs.Views.{tree, forest}
+use Rattle.cells.specs.declared.views.Node.{Node}
+use Rattle.cells.proofs.Layouts.{size_pos, height_pos}
+use Rattle.cells.specs.declared.views.Kids.{Kids}
+use Rattle.walks.specs.Pairs.{by_place, by_name, partners, pairs_with, pairs, is_by_name, levels, weight, Meets, PairAndRest}
+use Rattle.walks.specs.declared.pairs.Pair.{Pair}
+use Rattle.walks.specs.declared.pairs.Pairs.{Pairs}
+use Rattle.walks.specs.declared.equality.Frame.{Frame}
+use Rattle.walks.specs.declared.pairs.Partners.{Partners}
+use Rattle.walks.specs.declared.pairs.Partners.TheVariants.{ByPlace, ByName}
+use Rattle.walks.specs.EqualWalk.{IsFrameOf, answers, sure, frame_answer, outcome, AreLow, load}
+use Rattle.walks.proofs.HeadLaws.{is_leaf, no_leaf}
 
-sure_some : (e b : Bool) → sure e (Some b) ≡ Some b
-sure_some true b = refl
-sure_some false b = refl
-
--- a false is the last
-pub owes_no : (m : Meaning) (cells : List Cell) (frames : List PairFrame) (a : Option Bool) → Owes (Makes m cells) frames (Some false) a → a ≡ Some false
-owes_no m cells frames a o = passed_up (Makes m cells) (Some false) (λ n fr q k. k.is ∙ sure_some fr.sure false) frames a o
-
--- the same frames, the same turn, said otherwise
-pub stands_by : (m : Meaning) (cells : List Cell) (frames others : List PairFrame) (turn : PairTurn) (a : Option Bool) → frames ≡ others → Stands m cells others turn a → Stands m cells frames turn a
-stands_by m cells frames others turn a e s = subst (λ (x : List PairFrame). Stands m cells x turn a) (sym e) s
-
-pub turned : (m : Meaning) (cells : List Cell) (frames : List PairFrame) (turn other : PairTurn) (a : Option Bool) → turn ≡ other → Stands m cells frames turn a → Stands m cells frames other a
-turned m cells frames turn other a e s = subst (λ (x : PairTurn). Stands m cells frames x a) e s
-
--- the test of counts and heads
-pub unlike_test : (r b : Bool) (i j : ℕ) → r ≡ b → (r ≡ false) ⊎ ((r ≡ true) × (i ≡ j → ⊥)) → (b && eqb i j) ≡ false
-unlike_test r b i j e (inl f) = ap (λ (x : Bool). x && eqb i j) (sym e ∙ f)
-unlike_test r b i j e (inr f) = ap (λ (x : Bool). x && eqb i j) (sym e ∙ f.0) ∙ ne_eqb i j f.1
-
-pub like_test : (r b : Bool) (i j : ℕ) → r ≡ b → r ≡ true → i ≡ j → (b && eqb i j) ≡ true
-like_test r b i j e t q = ap (λ (x : Bool). x && eqb i j) (sym e ∙ t) ∙ eq-eqb i j q
-
--- a leaf against a node that is none
-beside_is : (m : Meaning) (p : Leaf) (k : Head) → leaf_of k ≡ None → equal_leaf m p k ≡ m.beside p
-beside_is m p (leaf q) e = absurd (let z : ◌≡◌ {A = ℕ} 0 1 = cc in omega arith)
-beside_is m p struct e = refl
-beside_is m p tuple e = refl
-beside_is m p list e = refl
-beside_is m p (enum v name index) e = refl
+-- the pairs by the rows alone
+pub pairs_are : (f : Forest) (p : Partners) (b : Bool) → is_by_name p ≡ b → pairs_with f p ≡ cond b (by_name f (partners p)) (by_place f (partners p))
+pairs_are f (ByPlace row) b e = ap (λ b. cond b (by_name f (forest row)) (by_place f (forest row))) e
+pairs_are f (ByName fields) b e = ap (λ b. cond b (by_name f (forest fields.row)) (by_place f (forest fields.row))) e
 
 module _ (m : Meaning) (ask : Tree → Tree → Option Bool) where
+  name_answers : (f g : Forest) → equal_by_name ask f g ≡ answers ask (by_name g f)
+  name_answers f empty = refl
+  name_answers f (more l u g) = ap (while_true (equal_found ask (under l f) u)) (name_answers f g)
+
+  place_answers : (f g : Forest) → count f ≡ count g → equal_by_place ask f g ≡ answers ask (by_place g f)
+  place_answers empty empty e = refl
+  place_answers empty (more l u g) e = absurd (omega arith)
+  place_answers (more k t f) empty e = absurd (omega arith)
+  place_answers (more k t f) (more l u g) e = ap (while_true (ask t u)) (place_answers f g (omega arith))
+
   -- no leaf, and unlike the other
-  unlike_are : (h : Head) (f : Forest) (k : Head) (g : Forest) → leaf_of h ≡ None → (alike h k && eqb (count f) (count g)) ≡ false → equal_nodes m ask h f k g ≡ Some false
-  unlike_are (leaf p) f k g n e = absurd (let z : ◌≡◌ {A = ℕ} 0 1 = cc in omega arith)
+  pub unlike_are : (h : Head) (f : Forest) (k : Head) (g : Forest) → is_leaf h ≡ false → (alike h k && eqb (count f) (count g)) ≡ false → equal_nodes m ask h f k g ≡ Some false
+  unlike_are (leaf p) f k g n e = no_leaf n
   unlike_are struct f k g n e = ap (λ (b : Bool). cond b (equal_by_name ask f g) (Some false)) e
   unlike_are tuple f k g n e = ap (λ (b : Bool). cond b (equal_by_place ask f g) (Some false)) e
   unlike_are list f k g n e = ap (λ (b : Bool). cond b (equal_by_place ask f g) (Some false)) e
@@ -72,230 +51,160 @@ module _ (m : Meaning) (ask : Tree → Tree → Option Bool) where
   unlike_are (enum tuple_like name index) f k g n e = ap (λ (b : Bool). cond b (or_false (equal_by_place ask g f)) (Some false)) e
   unlike_are (enum struct_like name index) f k g n e = ap (λ (b : Bool). cond b (or_false (equal_by_name ask g f)) (Some false)) e
 
-  -- alike: the children decide, those of an enum in changed places
-  like_are : (h : Head) (f : Forest) (k : Head) (g : Forest) → leaf_of h ≡ None → fits h (labels f) ≡ true → count f ≡ count g → (alike h k && eqb (count f) (count g)) ≡ true → equal_nodes m ask h f k g ≡ sure (is_enum h) (over (named h) ask (cond (is_enum h) g f) (cond (is_enum h) f g))
-  like_are (leaf p) f k g n w c e = absurd (let z : ◌≡◌ {A = ℕ} 0 1 = cc in omega arith)
-  like_are struct f k g n w c e = ap (λ (b : Bool). cond b (equal_by_name ask f g) (Some false)) e
-  like_are tuple f k g n w c e = ap (λ (b : Bool). cond b (equal_by_place ask f g) (Some false)) e
-  like_are list f k g n w c e = ap (λ (b : Bool). cond b (equal_by_place ask f g) (Some false)) e
+  -- what alike nodes of these children answer: those of an enum in changed places
+  abbrev over : Bool → Forest → Forest → Option Bool
+  over b f g = answers ask (cond b (by_name g f) (by_place g f))
+
+  like_are : (h : Head) (f : Forest) (k : Head) (g : Forest) → is_leaf h ≡ false → fits h (labels f) ≡ true → count f ≡ count g → (alike h k && eqb (count f) (count g)) ≡ true → equal_nodes m ask h f k g ≡ sure (is_enum h) (over (named h) (cond (is_enum h) g f) (cond (is_enum h) f g))
+  like_are (leaf p) f k g n w c e = no_leaf n
+  like_are struct f k g n w c e = ap (λ (b : Bool). cond b (equal_by_name ask f g) (Some false)) e ∙ name_answers f g
+  like_are tuple f k g n w c e = ap (λ (b : Bool). cond b (equal_by_place ask f g) (Some false)) e ∙ place_answers f g c
+  like_are list f k g n w c e = ap (λ (b : Bool). cond b (equal_by_place ask f g) (Some false)) e ∙ place_answers f g c
   like_are (enum unit name index) empty k empty n w c e = ap (λ (b : Bool). cond b (Some true) (Some false)) e
   like_are (enum unit name index) empty k (more l u g) n w c e = absurd (omega arith)
-  like_are (enum unit name index) (more l t f) k g n w c e = absurd (let q = (and_parts (good_name name) false w).1 in let z : ◌≡◌ {A = ℕ} 0 1 = cc in omega arith)
-  like_are (enum tuple_like name index) f k g n w c e = ap (λ (b : Bool). cond b (or_false (equal_by_place ask g f)) (Some false)) e
-  like_are (enum struct_like name index) f k g n w c e = ap (λ (b : Bool). cond b (or_false (equal_by_name ask g f)) (Some false)) e
+  like_are (enum unit name index) (more l t f) k g n w c e = no_leaf (sym (and_parts (good_name name) false w).1)
+  like_are (enum tuple_like name index) f k g n w c e = ap (λ (b : Bool). cond b (or_false (equal_by_place ask g f)) (Some false)) e ∙ ap or_false (place_answers g f (sym c))
+  like_are (enum struct_like name index) f k g n w c e = ap (λ (b : Bool). cond b (or_false (equal_by_name ask g f)) (Some false)) e ∙ ap or_false (name_answers g f)
 
--- of two rows and two forests, the one or the other
-either : (P : Kids → Forest → Type 0) (e : Bool) (i j : Kids) (f g : Forest) → P i f → P j g → P (cond e i j) (cond e f g)
-either P true i j f g a b = a
-either P false i j f g a b = b
+  -- the frame has these children
+  pub framed : (h : Head) (f : Forest) (k : Head) (g : Forest) (ours theirs : Kids) (fr : Frame) → is_leaf h ≡ false → fits h (labels f) ≡ true → count f ≡ count g → alike h k ≡ true → forest ours ≡ f → forest theirs ≡ g → IsFrameOf h ours theirs fr → equal_nodes m ask h f k g ≡ sure fr.sure (answers ask (pairs fr.pairs))
+  framed h f k g ours theirs fr n w c a p q r =
+      like_are h f k g n w c (ap₂ ◌&&◌ a (eq-eqb (count f) (count g) c))
+      ∙ ap₂ (λ x y. sure (is_enum h) (over (named h) (cond (is_enum h) y x) (cond (is_enum h) x y))) (sym p) (sym q)
+      ∙ ap₂ (λ x y. sure (is_enum h) (over (named h) x y)) (sym r.row) (sym r.next)
+      ∙ ap (λ ps. sure (is_enum h) (answers ask ps)) (sym (pairs_are (forest fr.pairs.ours) fr.pairs.theirs (named h) r.way))
+      ∙ ap (λ b. sure b (answers ask (pairs fr.pairs))) (sym r.sure)
 
-step_is : (m : Meaning) (n : ℕ) (t u : Tree) → equal_within m (suc n) t u ≡ equal_nodes m (equal_within m n) (root t) (kids t) (root u) (kids u)
-step_is m n (node h f) (node k g) = refl
+pub within_is : (m : Meaning) (n : ℕ) (t u : Tree) → equal_within m (suc n) t u ≡ equal_nodes m (equal_within m n) (root t) (kids t) (root u) (kids u)
+within_is m n (node h f) (node k g) = refl
 
--- two nodes meet
-module _ (m : Meaning) (cells : List Cell) (frames : List PairFrame) (x y : ℕ) (a : Option Bool) (s : Stands m cells frames (Ask x y) a) where
-  pub room : length frames < 16
-  room = (level (length frames) s.one s.sane_one).below
+-- a frame is lower than its nodes
+pub product_less : (a b : ℕ) → a * b < suc a * suc b
+product_less a b =
+    let x : suc a * suc b ≡ a * suc b + 1 * suc b = ap (λ n. n * suc b) (omega arith) ∙ add-mul a 1 (suc b) in
+    let y : a * suc b ≡ a * b + a * 1 = ap (λ n. a * n) (omega arith) ∙ mul-add a b 1 in
+    omega arith
 
-  opened : Owes (Makes m cells) frames (equal_nodes m (equal_within m (16 - suc (length frames))) (root s.one) (kids s.one) (root s.other) (kids s.other)) a
-  opened = owes_by (Makes m cells) frames a _ _ (ap (λ (n : ℕ). equal_within m n s.one s.other) (level (length frames) s.one s.sane_one).deeper ∙ step_is m (16 - suc (length frames)) s.one s.other) s.owes
+pub frame_less : (h : Head) (t u : Tree) (ours theirs : Kids) (fr : Frame) → forest ours ≡ kids t → forest theirs ≡ kids u → IsFrameOf h ours theirs fr → (levels fr.pairs < max (height t) (height u)) × (weight fr.pairs < size t * size u)
+frame_less h (node i f) (node j g) ours theirs fr p q r = go (is_enum h) r.next r.row
+  where
+    go : (b : Bool) → forest fr.pairs.ours ≡ cond b (forest ours) (forest theirs) → partners fr.pairs.theirs ≡ cond b (forest theirs) (forest ours) → (levels fr.pairs < max (suc (heights f)) (suc (heights g))) × (weight fr.pairs < suc (sizes f) * suc (sizes g))
+    go true x y =
+        let hx = ap heights (x ∙ p) in
+        let hy = ap heights (y ∙ q) in
+        let w : weight fr.pairs ≡ sizes f * sizes g = ap₂ (λ a b. sizes a * sizes b) (x ∙ p) (y ∙ q) in
+        (omega arith, rw w (product_less (sizes f) (sizes g)))
+    go false x y =
+        let hx = ap heights (x ∙ q) in
+        let hy = ap heights (y ∙ p) in
+        let w : weight fr.pairs ≡ sizes f * sizes g = ap₂ (λ a b. sizes a * sizes b) (x ∙ q) (y ∙ p) ∙ mul_comm (sizes g) (sizes f) in
+        (omega arith, rw w (product_less (sizes f) (sizes g)))
 
-  module _ (c d : Cell) where
-    pub leaf_leaf : (p q : Leaf) (r : Option Bool) → Some p ≡ leaf_of (meant (get_or cells x c).head) → Some q ≡ leaf_of (meant (get_or cells y d).head) → r ≡ m.eq p q → Stands m cells frames (Answered r) a
-    leaf_leaf p q r ep eq e =
-        let i = is_leaf (root s.one) p (ap leaf_of (sym (lies_head c s.lies_one)) ∙ sym ep) in
-        let j = is_leaf (root s.other) q (ap leaf_of (sym (lies_head d s.lies_other)) ∙ sym eq) in
-        owes_by (Makes m cells) frames a _ _ (ap₂ (λ (h k : Head). equal_nodes m (equal_within m (16 - suc (length frames))) h (kids s.one) k (kids s.other)) i j ∙ sym e) opened
+-- false and none at once, and what a frame adds to them
+sure_true : (s b : Bool) → sure s (Some b) ≡ Some b
+sure_true true b = refl
+sure_true false b = refl
 
-    pub leaf_node : (p : Leaf) (r : Option Bool) → Some p ≡ leaf_of (meant (get_or cells x c).head) → None ≡ leaf_of (meant (get_or cells y d).head) → r ≡ m.beside p → Stands m cells frames (Answered r) a
-    leaf_node p r ep eq e =
-        let i = is_leaf (root s.one) p (ap leaf_of (sym (lies_head c s.lies_one)) ∙ sym ep) in
-        owes_by (Makes m cells) frames a _ _
-        (ap (λ (h : Head). equal_nodes m (equal_within m (16 - suc (length frames))) h (kids s.one) (root s.other) (kids s.other)) i ∙ beside_is m p (root s.other) (ap leaf_of (sym (lies_head d s.lies_other)) ∙ sym eq) ∙ sym e)
-        opened
+sure_while : (s : Bool) (a b : Option Bool) → sure s (while_true a b) ≡ while_true (sure s a) (sure s b)
+sure_while true None b = refl
+sure_while true (Some true) b = refl
+sure_while true (Some false) b = refl
+sure_while false a b = refl
 
-    module _ (no_leaf : None ≡ leaf_of (meant (get_or cells x c).head)) (r : Bool) (is : r ≡ alike_values (get_or cells x c).head (get_or cells y d).head) where
-      none_there : leaf_of (root s.one) ≡ None
-      none_there = ap leaf_of (sym (lies_head c s.lies_one)) ∙ sym no_leaf
+while_while : (a b c : Option Bool) → while_true (while_true a b) c ≡ while_true a (while_true b c)
+while_while None b c = refl
+while_while (Some true) b c = refl
+while_while (Some false) b c = refl
 
-      counted : {t : Bool} → (alike (root s.one) (root s.other) && eqb (get_or cells x c).children (get_or cells y d).children) ≡ t → (alike (root s.one) (root s.other) && eqb (count (kids s.one)) (count (kids s.other))) ≡ t
-      counted e = ap₂ (λ (i j : ℕ). alike (root s.one) (root s.other) && eqb i j) (sym (lies_count c s.lies_one)) (sym (lies_count d s.lies_other)) ∙ e
+pub sure_within : (a b : Bool) (x : Option Bool) → sure (cond a true b) x ≡ sure b (sure a x)
+sure_within true true None = refl
+sure_within true true (Some x) = refl
+sure_within true false None = refl
+sure_within true false (Some x) = refl
+sure_within false b x = refl
 
-      pub unlike : (r ≡ false) ⊎ ((r ≡ true) × ((get_or cells x c).children ≡ (get_or cells y d).children → ⊥)) → Stands m cells frames (Answered (Some false)) a
-      unlike e =
-          owes_by (Makes m cells) frames a _ _
-          (unlike_are m (equal_within m (16 - suc (length frames))) (root s.one) (kids s.one) (root s.other) (kids s.other) none_there (counted (unlike_test r _ _ _ (is ∙ alike_there c d s.lies_one s.lies_other) e)))
-          opened
+-- a frame with nothing left
+pub frame_done : (m : Meaning) (fr : Frame) (frs : List Frame) → pairs fr.pairs ≡ [] → outcome m (fr ∷ frs) ≡ outcome m frs
+frame_done m fr frs e = ap (λ ps. while_true (sure fr.sure (answers (equal_within m (15 - length frs)) ps)) (outcome m frs)) e ∙ ap (λ r. while_true r (outcome m frs)) (sure_true fr.sure true)
 
-      module _ (ours theirs : Kids) (kept_ours : IsKept cells ours (kids s.one)) (kept_theirs : IsKept cells theirs (kids s.other)) where
-        pub few : (e : Bool) (w : Kids) → w ≡ cond e ours theirs → w.count ≤ length cells
-        few true w q = omega (arith, ap (λ (v : Kids). v.count) q, count_there s.lies_one kept_ours)
-        few false w q = omega (arith, ap (λ (v : Kids). v.count) q, count_there s.lies_other kept_theirs)
+-- the first pair of the innermost frame, and the rest
+module _ (m : Meaning) (fr : Frame) (frs : List Frame) (p : Pair × Pairs) (a : PairAndRest fr.pairs p) where
+  abbrev pub on : List Frame
+  on = record { pairs = p.1; sure = fr.sure } ∷ frs
 
-        pub like : (fr : PairFrame) → (get_or cells x c).children ≡ (get_or cells y d).children → r ≡ true → fr.named ≡ named (meant (get_or cells x c).head) → fr.sure ≡ is_enum (meant (get_or cells x c).head) → fr.next ≡ cond (is_enum (meant (get_or cells x c).head)) ours theirs → fr.partners ≡ cond (is_enum (meant (get_or cells x c).head)) theirs ours → fr.hint ≡ cond (is_enum (meant (get_or cells x c).head)) theirs ours → Stands m cells (fr ∷ frames) (Answered (Some true)) a
-        like fr n t named_is sure_is next_is partners_is hint_is =
-            let h = lies_head c s.lies_one in
-            let b = is_enum (root s.one) in
-            let f = kids s.one in
-            let g = kids s.other in
-            let v = level (length frames) s.one s.sane_one in
-            let w = level (length frames) s.other s.sane_other in
-            let same : count f ≡ count g = sym (lies_count c s.lies_one) ∙ n ∙ lies_count d s.lies_other in
-            let Sane : Kids → Forest → Type 0 = λ _ f. each (sound (16 - suc (length frames))) f ≡ true in
-            let kind : alike (root s.one) (root s.other) ≡ true = sym (alike_there c d s.lies_one s.lies_other) ∙ sym is ∙ t in
-            let Apart : Kids → Forest → Type 0 = λ _ e. distinct (labels e) ≡ true in
-            let Many : Kids → Forest → Type 0 = λ _ e. count e ≡ count f in (
-              _,
-              record {
-                f = cond b g f;
-                g = cond b f g;
-                fits =
-                    record {
-                      partners = subst (λ (w : Kids). IsKept cells w (cond b g f)) (sym (partners_is ∙ ap (λ (k : Head). cond (is_enum k) theirs ours) h)) (either (IsKept cells) b theirs ours g f kept_theirs kept_ours);
-                      next = subst (λ (w : Kids). IsKept cells w (cond b f g)) (sym (next_is ∙ ap (λ (k : Head). cond (is_enum k) ours theirs) h)) (either (IsKept cells) b ours theirs f g kept_ours kept_theirs);
-                      ahead = cond b g f;
-                      hint = subst (λ (w : Kids). IsKept cells w (cond b g f)) (sym (hint_is ∙ ap (λ (k : Head). cond (is_enum k) theirs ours) h)) (either (IsKept cells) b theirs ours g f kept_theirs kept_ours);
-                      behind = behind_all (cond b g f);
-                      apart = λ q.
-                          let i = sym (named_is ∙ ap named h) ∙ q in
-                          either Apart b ours ours g f (named_apart (root s.other) (labels g) w.fit (sym (alike_named (root s.one) (root s.other) kind) ∙ i)) (named_apart (root s.one) (labels f) v.fit i);
-                      even = λ _. either Many b ours ours g f (sym same) refl ∙ sym (either Many b ours ours f g refl (sym same));
-                      below = v.below;
-                      sane_f = either Sane b ours ours g f w.made v.made;
-                      sane_g = either Sane b ours ours f g v.made w.made;
-                    };
-                is = refl;
-              },
-              owes_by (Makes m cells) frames a _ _
-                  (like_are m (equal_within m (16 - suc (length frames))) (root s.one) f (root s.other) g none_there v.fit same (counted (like_test r _ _ _ (is ∙ alike_there c d s.lies_one s.lies_other) t n))
-                  ∙ ap₂ (λ (v w : Bool). sure v (over w (equal_within m (16 - suc (length frames))) (cond b g f) (cond b f g))) (sym (sure_is ∙ ap is_enum h)) (sym (named_is ∙ ap named h)))
-                  opened,
-            )
+  pub stepped : outcome m (fr ∷ frs) ≡ while_true (sure fr.sure (equal_found (equal_within m (15 - length frs)) (option_map tree p.0.theirs) (tree p.0.ours))) (outcome m on)
+  stepped =
+      let ask = equal_within m (15 - length frs) in
+      let first = equal_found ask (option_map tree p.0.theirs) (tree p.0.ours) in
+      ap (λ ps. while_true (sure fr.sure (answers ask ps)) (outcome m frs)) a.split
+      ∙ ap (λ r. while_true r (outcome m frs)) (sure_while fr.sure first (answers ask (pairs p.1)))
+      ∙ while_while (sure fr.sure first) (sure fr.sure (answers ask (pairs p.1))) (outcome m frs)
 
--- nothing is left
-over_none : (b : Bool) (ask : Tree → Tree → Option Bool) (f : Forest) → (b ≡ false → count f ≡ 0) → over b ask f empty ≡ Some true
-over_none true ask f e = refl
-over_none false ask empty e = refl
-over_none false ask (more l t f) e = absurd (omega (arith, e refl))
+  pub alone : p.0.theirs ≡ None → outcome m (fr ∷ frs) ≡ Some false
+  alone e =
+      stepped ∙ ap (λ o. while_true (sure fr.sure (equal_found (equal_within m (15 - length frs)) (option_map tree o) (tree p.0.ours))) (outcome m on)) e
+      ∙ ap (λ r. while_true r (outcome m on)) (sure_true fr.sure false)
 
--- a child of the innermost open pair has no answer
-pub unsure : (m : Meaning) (cells : List Cell) (fr : PairFrame) (frs : List PairFrame) (a : Option Bool) → Stands m cells (fr ∷ frs) (Answered None) a → Stands m cells frs (Answered (sure fr.sure None)) a
-unsure m cells fr frs a s = owes_by (Makes m cells) frs a _ _ s.1.is s.2
+  module _ (y : Node) (e : p.0.theirs ≡ Some y) (low : AreLow (fr ∷ frs)) where
+    meets : Meets fr.pairs p.1 (tree p.0.ours) (tree y)
+    meets = subst (λ o. IfSome o (λ y. Meets fr.pairs p.1 (tree p.0.ours) (tree y))) e a.met
 
--- or it is equal
-module _ (m : Meaning) (cells : List Cell) (fr : PairFrame) (frs : List PairFrame) (a : Option Bool) (s : Stands m cells (fr ∷ frs) (Answered (Some true)) a) where
-  top_owes : (b : Bool) → fr.named ≡ b → Owes (Makes m cells) frs (sure fr.sure (over b (equal_within m (16 - suc (length frs))) s.1.f s.1.g)) a
-  top_owes b e = owes_by (Makes m cells) frs a _ _ (s.1.is ∙ ap (λ (v : Bool). sure fr.sure (over v (equal_within m (16 - suc (length frs))) s.1.f s.1.g)) e) s.2
+    pub on_low : AreLow on
+    on_low = (omega (arith, a.low, low.0), low.1)
 
-  pub left_none : fr.next.count ≡ 0 → Stands m cells frs (Answered (Some true)) a
-  left_none z =
-      let e = none_left s.1.g (omega (arith, s.1.fits.next.counted)) in
-      owes_by (Makes m cells) frs a _ _
-      (ap (λ (g : Forest). sure fr.sure (over fr.named (equal_within m (16 - suc (length frs))) s.1.f g)) e
-      ∙ ap (sure fr.sure) (over_none fr.named (equal_within m (16 - suc (length frs))) s.1.f (λ q. s.1.fits.even q ∙ ap count e))
-      ∙ sure_some fr.sure true)
-      (top_owes fr.named refl)
+    pub on_less : load on < load (fr ∷ frs)
+    on_less =
+        let s = mul-pos {m = size (tree p.0.ours)} {n = size (tree y)} (size_pos (tree p.0.ours)) (size_pos (tree y)) in
+        omega (arith, meets.less)
 
-  module _ (p : 0 < fr.next.count) where
-    module _ (name : NameValue) (labelled : Labels cells fr.next name) (named_is : fr.named ≡ true) where
-      pub no_partner : ((n : Name) → spelled n ≡ name → tidy_name n ≡ true → under n s.1.f ≡ None) → Stands m cells frs (Answered (Some false)) a
-      no_partner look = go s.1.g s.1.fits.next (top_owes true named_is)
-        where
-          go : (g : Forest) → IsKept cells fr.next g → Owes (Makes m cells) frs (sure fr.sure (equal_by_name (equal_within m (16 - suc (length frs))) s.1.f g)) a → Owes (Makes m cells) frs (Some false) a
-          go empty k o = absurd (omega (arith, k.counted))
-          go (more n u g) k o =
-              owes_by (Makes m cells) frs a _ _
-              (ap (λ (x : Option Tree). sure fr.sure (while_true (equal_found (equal_within m (16 - suc (length frs))) x u) (equal_by_name (equal_within m (16 - suc (length frs))) s.1.f g))) (look n (sym (labelled n u g k)) (first_tidy k))
-              ∙ sure_some fr.sure false)
-              o
+    deeper : 15 - length frs ≡ suc (15 - suc (length frs))
+    deeper = omega (arith, height_pos (tree y), meets.second, low.0)
 
-      pub by_name_step : (row hint next : Kids) → ((n : Name) → spelled n ≡ name → tidy_name n ≡ true → There cells n s.1.f row) → Rests cells row hint → Rests cells fr.next next → Stands m cells (record { named = fr.named; sure = fr.sure; next = next; partners = fr.partners; hint = hint } ∷ frs) (Ask row.at fr.next.at) a
-      by_name_step row hint next look rh rn = go s.1.g s.1.fits (top_owes true named_is)
-        where
-          go : (g : Forest) → Fits cells (length frs) fr s.1.f g → Owes (Makes m cells) frs (sure fr.sure (equal_by_name (equal_within m (16 - suc (length frs))) s.1.f g)) a → Stands m cells (record { named = fr.named; sure = fr.sure; next = next; partners = fr.partners; hint = hint } ∷ frs) (Ask row.at fr.next.at) a
-          go empty k o = absurd (omega (arith, k.next.counted))
-          go (more n u g) k o =
-              let found = look n (sym (labelled n u g k.next)) (first_tidy k.next) in
-              let q = each_parts (sound (16 - suc (length frs))) u g k.sane_g in
-              record {
-                one = found.child;
-                other = u;
-                lies_one = lie_first found.kept.lies;
-                lies_other = lie_first k.next.lies;
-                sane_one = under_ok (sound (16 - suc (length frs))) n s.1.f found.child k.sane_f found.is;
-                sane_other = q.0;
-                owes = (
-                  _,
-                  record {
-                    f = s.1.f;
-                    g = g;
-                    fits =
-                        record {
-                          partners = k.partners;
-                          next = rn n u g k.next;
-                          ahead = found.others;
-                          hint = rh found.label found.child found.others found.kept;
-                          behind = behind_rest s.1.f found.label found.child found.others found.behind;
-                          apart = k.apart;
-                          even = λ z. both_ways fr.named named_is z;
-                          below = k.below;
-                          sane_f = k.sane_f;
-                          sane_g = q.1;
-                        };
-                    is = refl;
-                  },
-                  owes_by (Makes m cells) frs a _ _
-                      (ap (λ (x : Option Tree). sure fr.sure (while_true (equal_found (equal_within m (16 - suc (length frs))) x u) (equal_by_name (equal_within m (16 - suc (length frs))) s.1.f g))) found.is
-                      ∙ ap (λ (b : Bool). sure fr.sure (while_true (equal_within m (16 - suc (length frs)) found.child u) (over b (equal_within m (16 - suc (length frs))) s.1.f g))) (sym named_is))
-                      o,
-                );
-              }
+    pub room : length frs < 16
+    room = omega (arith, low.0)
 
-    pub by_place_step : fr.named ≡ false → (next partners : Kids) → Rests cells fr.next next → Rests cells fr.partners partners → Stands m cells (record { named = false; sure = fr.sure; next = next; partners = partners; hint = partners } ∷ frs) (Ask fr.partners.at fr.next.at) a
-    by_place_step named_is next partners rn rp = go s.1.f s.1.g s.1.fits (top_owes false named_is)
-      where
-        go : (f g : Forest) → Fits cells (length frs) fr f g → Owes (Makes m cells) frs (sure fr.sure (equal_by_place (equal_within m (16 - suc (length frs))) f g)) a → Stands m cells (record { named = false; sure = fr.sure; next = next; partners = partners; hint = partners } ∷ frs) (Ask fr.partners.at fr.next.at) a
-        go f empty k o = absurd (omega (arith, k.next.counted))
-        go empty (more n u g) k o = absurd (omega (arith, k.even named_is))
-        go (more i t f) (more n u g) k o =
-            let p = each_parts (sound (16 - suc (length frs))) t f k.sane_f in
-            let q = each_parts (sound (16 - suc (length frs))) u g k.sane_g in
-            record {
-              one = t;
-              other = u;
-              lies_one = lie_first k.partners.lies;
-              lies_other = lie_first k.next.lies;
-              sane_one = p.0;
-              sane_other = q.0;
-              owes = (
-                _,
-                record {
-                  f = f;
-                  g = g;
-                  fits =
-                      record {
-                        partners = rp i t f k.partners;
-                        next = rn n u g k.next;
-                        ahead = f;
-                        hint = rp i t f k.partners;
-                        behind = behind_all f;
-                        apart = λ z. both_ways false z refl;
-                        even = λ _. omega (arith, k.even named_is);
-                        below = k.below;
-                        sane_f = p.1;
-                        sane_g = q.1;
-                      };
-                  is = refl;
-                },
-                o,
-              );
-            }
+    -- they have answered so
+    pub answered : (r : Option Bool) → ((n : ℕ) → equal_within m (suc n) (tree y) (tree p.0.ours) ≡ r) → outcome m (fr ∷ frs) ≡ while_true (sure fr.sure r) (outcome m on)
+    answered r k =
+        stepped ∙ ap (λ o. while_true (sure fr.sure (equal_found (equal_within m (15 - length frs)) (option_map tree o) (tree p.0.ours))) (outcome m on)) e
+        ∙ ap (λ n. while_true (sure fr.sure (equal_within m n (tree y) (tree p.0.ours))) (outcome m on)) deeper
+        ∙ ap (λ x. while_true (sure fr.sure x) (outcome m on)) (k (15 - suc (length frs)))
 
--- taking a frame away lessens what is left
-pub popped_falls : (n : ℕ) (fr : PairFrame) (frs frames : List PairFrame) (turn : PairTurn) (r : Option Bool) → turn ≡ Answered r → frames ≡ fr ∷ frs → rank left n frs < weight n frames turn
-popped_falls n fr frs frames turn r e q = subst (λ (t : PairTurn). rank left n frs < weight n frames t) (sym e) (subst (λ (x : List PairFrame). rank left n frs < rank left n x) (sym q) (done_falls left n fr frs))
+    pub answered_is : (r s : Option Bool) → ((n : ℕ) → equal_within m (suc n) (tree y) (tree p.0.ours) ≡ r) → sure fr.sure r ≡ s → outcome m (fr ∷ frs) ≡ while_true s (outcome m on)
+    answered_is r s k z = answered r k ∙ ap (λ x. while_true x (outcome m on)) z
+
+    -- their children are asked
+    module _ (inner : Frame) (s : Bool) (k : (n : ℕ) → equal_within m (suc n) (tree y) (tree p.0.ours) ≡ frame_answer m n inner)
+        (less : (levels inner.pairs < max (height (tree y)) (height (tree p.0.ours))) × (weight inner.pairs < size (tree y) * size (tree p.0.ours))) (q : s ≡ cond inner.sure true fr.sure) (stack : List Frame) (z : stack ≡ on) where
+      pub opened : outcome m (record { pairs = inner.pairs; sure = s } ∷ stack) ≡ outcome m (fr ∷ frs)
+      opened =
+          let n = 15 - suc (length frs) in
+          let ask = answers (equal_within m n) (pairs inner.pairs) in
+          ap (λ st. outcome m (record { pairs = inner.pairs; sure = s } ∷ st)) z
+          ∙ ap (λ b. while_true (sure b ask) (outcome m on)) q
+          ∙ ap (λ x. while_true x (outcome m on)) (sure_within inner.sure fr.sure ask)
+          ∙ ap (λ x. while_true (sure fr.sure x) (outcome m on)) (sym (k n))
+          ∙ ap (λ n. while_true (sure fr.sure (equal_within m n (tree y) (tree p.0.ours))) (outcome m on)) (sym deeper)
+          ∙ ap (λ o. while_true (sure fr.sure (equal_found (equal_within m (15 - length frs)) (option_map tree o) (tree p.0.ours))) (outcome m on)) (sym e)
+          ∙ sym stepped
+
+      pub opened_low : AreLow (record { pairs = inner.pairs; sure = s } ∷ stack)
+      opened_low = subst (λ st. AreLow (record { pairs = inner.pairs; sure = s } ∷ st)) (sym z) (omega (arith, less.0, meets.first, meets.second, low.0), on_low)
+
+      pub opened_less : load (record { pairs = inner.pairs; sure = s } ∷ stack) < load (fr ∷ frs)
+      opened_less =
+          let c = mul_comm (size (tree y)) (size (tree p.0.ours)) in
+          subst (λ st. load (record { pairs = inner.pairs; sure = s } ∷ st) < load (fr ∷ frs)) (sym z) (omega (arith, less.1, meets.less))
+
+pub sure_some : (s b : Bool) (r : Option Bool) → r ≡ Some b → sure s r ≡ Some b
+sure_some s b r e = ap (sure s) e ∙ sure_true s b
+
+while_last : (r : Option Bool) → while_true r (Some true) ≡ r
+while_last None = refl
+while_last (Some true) = refl
+while_last (Some false) = refl
 
 -- the walk at its beginning
-pub start : (m : Meaning) (cells : List Cell) (x y : ℕ) (frames : List PairFrame) (t u : Tree) → Lies cells x t → Lies cells y u → sound 16 t ≡ true → sound 16 u ≡ true → frames ≡ [] → Stands m cells frames (Ask x y) (equal m t u)
-unfolding equal
-start m cells x y frames t u a b p q e = stands_by m cells frames [] (Ask x y) (equal_within m 16 t u) e (record { one = t; other = u; lies_one = a; lies_other = b; sane_one = p; sane_other = q; owes = refl })
+pub begun : (m : Meaning) (fr : Frame) (stack : List Frame) (a : Option Bool) → stack ≡ [] → levels fr.pairs < 16 → a ≡ frame_answer m 15 fr → (outcome m (fr ∷ stack) ≡ a) × AreLow (fr ∷ stack)
+begun m fr stack a e h q =
+    (ap (λ st. outcome m (fr ∷ st)) e ∙ while_last (frame_answer m 15 fr) ∙ sym q, subst (λ st. AreLow (fr ∷ st)) (sym e) (omega arith, tt))

@@ -1,10 +1,8 @@
 pub mod Stacks
-pub mod Walks
+pub mod Searches
+pub mod Meetings
+pub mod HeadLaws
+pub mod EqualWalks
+pub mod CompareWalks
 pub mod Made
 pub mod HashWalks
-pub mod HeadLaws
-pub mod Rows
-pub mod Scans
-pub mod EqualWalks
-pub mod Orders
-pub mod CompareWalks

@@ -1,69 +1,65 @@
 -- Where the walk of `equal` stands, and to which answer it comes from there.
-use Rattle.std.specs.Prelude.{◌≡◌, ℕ, suc, ◌+◌, ◌-◌, ◌<◌, Bool, true, false, List, length, Option}
+use Rattle.std.specs.Prelude.{◌≡◌, ℕ, suc, ◌+◌, ◌-◌, ◌*◌, ◌<◌, max, Bool, true, false, if◌then◌else◌, List, [], ◌∷◌, length, Some, Option}
 use Rattle.rules.specs.Meaning.{Meaning}
-use Rattle.trees.specs.Name.{distinct}
-use Rattle.trees.specs.Tree.{Tree, Forest, labels, count, each, sound}
-use Rattle.trees.specs.Equal.{while_true, equal_by_name, equal_by_place, or_false, equal_within}
-use Rattle.cells.specs.Layout.{Lies}
-use Rattle.cells.specs.Children.{IsKept}
-use Rattle.cells.specs.declared.types.Cell.{Cell}
-use Rattle.walks.specs.declared.equality.PairFrame.{PairFrame}
-use Rattle.walks.specs.declared.equality.PairTurn.{PairTurn}
-use Rattle.walks.specs.declared.equality.PairTurn.TheVariants.{Ask, Answered}
-use Rattle.walks.specs.Seeking.{Behind}
-use Rattle.walks.specs.Walk.{Owes, rank, asked}
+use Rattle.trees.specs.declared.head.Head.{Head}
+use Rattle.trees.specs.Tree.{Tree, named, size, height}
+use Rattle.trees.specs.Tests.{is_enum}
+use Rattle.trees.specs.Equal.{while_true, equal_found, or_false, equal_within}
+use Rattle.cells.specs.Views.{forest}
+use Rattle.cells.specs.declared.views.Kids.{Kids}
+use Rattle.walks.specs.Pairs.{partners, is_by_name, pairs, levels, weight}
+use Rattle.walks.specs.declared.equality.Frame.{Frame}
+use Rattle.walks.specs.declared.met.Met.{Met}
+use Rattle.walks.specs.declared.met.Met.TheVariants.{Answered, Opened}
 
--- the children g in order, each against its partner in f, by name or by position
-abbrev pub over : Bool → (Tree → Tree → Option Bool) → Forest → Forest → Option Bool
-over true ask f g = equal_by_name ask f g
-over false ask f g = equal_by_place ask f g
+-- the frame of two alike nodes: an enum asks the second's fields against the first's
+pub record IsFrameOf (h : Head) (ours theirs : Kids) (fr : Frame) : Type 0 where
+  pub next : forest fr.pairs.ours ≡ (if is_enum h then forest ours else forest theirs)
+  pub row : partners fr.pairs.theirs ≡ (if is_enum h then forest theirs else forest ours)
+  pub way : is_by_name fr.pairs.theirs ≡ named h
+  pub sure : fr.sure ≡ is_enum h
 
--- where enums are asked, none counts as false
+-- what the pairs answer, one after the other
+abbrev pub answers : (Tree → Tree → Option Bool) → List (Tree × Option Tree) → Option Bool
+answers ask [] = Some true
+answers ask (p ∷ ps) = while_true (equal_found ask p.1 p.0) (answers ask ps)
+
+-- in an enum none counts as false
 abbrev pub sure : Bool → Option Bool → Option Bool
 sure true r = or_false r
 sure false r = r
 
--- two nodes that are open, with n pairs around them: the children g are to come, to be asked against f,
--- and where names count, the children ahead come behind the last partner
-pub record Fits (cells : List Cell) (n : ℕ) (fr : PairFrame) (f g : Forest) : Type 0 where
-  pub partners : IsKept cells fr.partners f
-  pub next : IsKept cells fr.next g
-  pub ahead : Forest
-  pub hint : IsKept cells fr.hint ahead
-  pub behind : Behind f ahead
-  pub apart : fr.named ≡ true → distinct (labels f) ≡ true
-  pub even : fr.named ≡ false → count f ≡ count g
-  pub below : n < 16
-  pub sane_f : each (sound (16 - suc n)) f ≡ true
-  pub sane_g : each (sound (16 - suc n)) g ≡ true
+-- what a frame answers, where its pairs have so many levels
+abbrev pub frame_answer : Meaning → ℕ → Frame → Option Bool
+frame_answer m n fr = sure fr.sure (answers (equal_within m n) (pairs fr.pairs))
 
--- such a frame makes q of its child's answer r
-pub record Makes (m : Meaning) (cells : List Cell) (n : ℕ) (fr : PairFrame) (r q : Option Bool) : Type 0 where
-  pub f : Forest
-  pub g : Forest
-  pub fits : Fits cells n fr f g
-  pub is : q ≡ sure fr.sure (while_true r (over fr.named (equal_within m (16 - suc n)) f g))
+-- what two nodes that met come to
+abbrev pub answer_of : Meaning → ℕ → Met (Option Bool) Frame → Option Bool
+answer_of m n (Answered a) = a
+answer_of m n (Opened fr) = frame_answer m n fr
 
--- two sound trees that lie at x and y are to be compared
-pub record Asks (m : Meaning) (cells : List Cell) (frames : List PairFrame) (x y : ℕ) (a : Option Bool) : Type 0 where
-  pub one : Tree
-  pub other : Tree
-  pub lies_one : Lies cells x one
-  pub lies_other : Lies cells y other
-  pub sane_one : sound (16 - length frames) one ≡ true
-  pub sane_other : sound (16 - length frames) other ≡ true
-  pub owes : Owes (Makes m cells) frames (equal_within m (16 - length frames) one other) a
+-- a frame is lower than its nodes, and there is less to do in it
+abbrev pub IsLess : Met (Option Bool) Frame → Tree → Tree → Type 0
+IsLess (Answered a) t u = Unit {0}
+IsLess (Opened fr) t u =
+    (levels fr.pairs < max (height t) (height u)) × (weight fr.pairs < size t * size u)
 
--- the walk stands there with these frames, and comes to the answer a
-abbrev pub Stands : Meaning → List Cell → List PairFrame → PairTurn → Option Bool → Type 0
-Stands m cells frames (Ask x y) a = Asks m cells frames x y a
-Stands m cells frames (Answered r) a = Owes (Makes m cells) frames r a
+-- what two nodes that met come to, and how little of them is left
+pub record IsMet (m : Meaning) (t u : Tree) (met : Met (Option Bool) Frame) : Type 0 where
+  pub answer : (n : ℕ) → equal_within m (suc n) t u ≡ answer_of m n met
+  pub less : IsLess met t u
 
--- the children of a frame that are to come
-abbrev pub left : PairFrame → ℕ
-left fr = fr.next.count
+-- what all frames answer, from the innermost outward
+abbrev pub outcome : Meaning → List Frame → Option Bool
+outcome m [] = Some true
+outcome m (fr ∷ frs) = while_true (frame_answer m (15 - length frs) fr) (outcome m frs)
 
--- how much of the walk is left, among n cells
-abbrev pub weight : ℕ → List PairFrame → PairTurn → ℕ
-weight n frames (Ask x y) = rank left n frames + asked n frames
-weight n frames (Answered r) = rank left n frames
+-- no frame has more levels than are left to it
+abbrev pub AreLow : List Frame → Type 0
+AreLow [] = Unit {0}
+AreLow (fr ∷ frs) = (levels fr.pairs + length frs < 16) × AreLow frs
+
+-- how much there is to do in all
+abbrev pub load : List Frame → ℕ
+load [] = 0
+load (fr ∷ frs) = 2 * weight fr.pairs + 1 + load frs

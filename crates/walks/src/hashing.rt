@@ -1,36 +1,24 @@
-//! The hash of a tree: a loop over its cells in their order, with a stack of the nodes that are open.
-ghost use Rattle.std.specs.Prelude.{◌≡◌, ℕ, ◌+◌, ◌<◌, ◌≤◌, List, ◌∷◌, length, IfSome, None, Option, MatchOption};
-ghost use Rattle.names.specs.Names.{text};
+//! The hash of a tree: a loop over its cells in their order, with a stack of those that are open.
+ghost use Rattle.std.specs.Prelude.{◌≡◌};
 ghost use Rattle.rules.specs.Fnv.{fnv as hash_of, from, le_bytes};
-ghost use Rattle.rules.specs.Meaning.{Meaning};
-ghost use Rattle.trees.specs.Tree.{Tree, IsSound};
 ghost use Rattle.trees.specs.Hash.{hash as tree_hash, list_front, enum_front};
-ghost use Rattle.cells.specs.declared.types.Cell.{Cell as CellOf};
-ghost use Rattle.cells.specs.Heads.{meant};
-ghost use Rattle.cells.specs.Layout.{Lies};
-ghost use Rattle.walks.specs.Stack.{held};
-ghost use Rattle.walks.specs.HashWalk.{begun as begins, Stands, weight};
-ghost use Rattle.walks.specs.declared.hashing.HashTurn.TheVariants.{Visit, Done};
+ghost use Rattle.cells.specs.Views.{tree};
+ghost use Rattle.walks.specs.HashWalk.{IsMet};
 
-use crate::stack::Stack;
-use cells::{Cell, Head, Variant};
+use crate::met::Met;
+use arrayvec::ArrayVec;
+use cells::{Cell, LEVELS, Node};
+use names::Name;
 use rules::fnv;
 use rules::rule::LeafRule;
+use trees::codes::VariantType;
+use trees::head::Head;
 
-/// A node that is open: the hash of what has come of it, and how many children come after the current one.
-#[derive(Clone, Copy)]
-struct HashFrame {
+/// A node that is open: the hash of what has come of it, and how many children are to come.
+#[derive(Clone, Copy, Default)]
+struct Frame {
     acc: u64,
     left: usize,
-}
-
-/// What the walk does next.
-#[derive(Clone, Copy)]
-enum HashTurn {
-    /// A node begins at the position.
-    Visit,
-    /// A node is done, and this is its hash.
-    Done(u64),
 }
 
 /// The hash with the eight bytes of a number more.
@@ -48,93 +36,69 @@ fn list_begun(children: usize) -> u64
 }
 
 /// The hash of what stands before the fields' hashes in an enum.
-fn enum_begun(v: Variant) -> u64
-    ensures { result ≡ hash_of (enum_front v.kind (text v.name)) }
+fn enum_begun(kind: VariantType, name: &Name) -> u64
+    ensures { result ≡ hash_of (enum_front kind name.now) }
 {
     let opened = fnv::fed_byte(fnv::START, 4);
-    let sized = fnv::fed_byte(opened, v.name.len() as u8);
-    let named = fnv::fed(sized, v.name.bytes());
-    fnv::fed_byte(named, v.kind.number())
+    let sized = fnv::fed_byte(opened, name.len() as u8);
+    let named = fnv::fed(sized, name.bytes());
+    fnv::fed_byte(named, u8::from(kind))
 }
 
-/// What a node has before its children: a leaf its whole hash, which the rule gives. None: it has no hash.
-fn begun<R: LeafRule>(rule: &R, head: Head, children: usize) -> Option<u64>
-    ensures { result ≡ begins (R.LeafRule.means rule.now) (meant head) children }
+/// A node's cell is met. A leaf is answered by the rule; none: the node has no hash.
+fn meet<R: LeafRule>(rule: &R, cell: &Cell) -> Met<Option<u64>, Frame>
+    ensures { IsMet (R.means rule.now) cell.now result }
 {
-    match head {
-        Head::Leaf(p) => rule.hash(p),
-        Head::Struct | Head::Tuple => None,
-        Head::List => Some(list_begun(children)),
-        Head::Enum(v) => Some(enum_begun(v)),
+    let left = cell.children;
+    match &cell.head {
+        Head::Leaf(p) => Met::Answered(rule.hash(*p)),
+        Head::Struct | Head::Tuple => Met::Answered(None),
+        Head::List => Met::Opened(Frame {
+            acc: list_begun(left),
+            left,
+        }),
+        Head::Enum { kind, name, .. } => Met::Opened(Frame {
+            acc: enum_begun(*kind, name),
+            left,
+        }),
     }
 }
 
-/// The node at `pos` begins: the walk goes on with its first child, or the node is done. None: it has no hash.
-fn enter<R: LeafRule>(
-    rule: &R,
-    cells: &[Cell],
-    pos: usize,
-    stack: &mut Stack<HashFrame>,
-) -> Option<HashTurn>
-    requires { (a : Option ℕ) × Stands (R.LeafRule.means rule.now) cells.now pos (held stack.old.frames stack.old.depth) Visit a }
-    ensures comes { (a : Option ℕ) → Stands (R.LeafRule.means rule.now) cells.now pos (held stack.old.frames stack.old.depth) Visit a → MatchOption result (a ≡ None) (λ turn. Stands (R.LeafRule.means rule.now) cells.now (pos + 1) (held stack.new.frames stack.new.depth) turn a) }
-    ensures falls { IfSome result (λ turn. weight turn + length (held stack.new.frames stack.new.depth) ≤ length (held stack.old.frames stack.old.depth) + 1) }
+/// The hash of a tree, or none.
+// Over cells, since a row of views would look for the end of each child, anew on each level, and a hash asks
+// every cell once, in their order. The open nodes are on a stack of their own, as in all walks: nothing recurses.
+pub fn hash<R: LeafRule>(rule: &R, node: Node<'_>) -> Option<u64>
+    ensures { result ≡ tree_hash (R.means rule.now) (tree node.entry) }
 {
-    let cell = cells[pos];
-    let children = cell.children;
-    match begun(rule, cell.head, children) {
-        None => None,
-        Some(acc) => {
-            if children == 0 {
-                return Some(HashTurn::Done(acc));
-            }
-            stack.push(HashFrame {
-                acc,
-                left: children - 1,
-            });
-            Some(HashTurn::Visit)
-        }
-    }
-}
-
-/// A child of an open node is done: the walk goes on with the next, or that node is done too.
-fn leave(frame: HashFrame, h: u64, stack: &mut Stack<HashFrame>) -> HashTurn
-    requires { length (held stack.old.frames stack.old.depth) < 16 }
-    ensures comes { (m : Meaning) (cells : List CellOf) (pos : ℕ) (a : Option ℕ) → Stands m cells pos (frame ∷ held stack.old.frames stack.old.depth) (Done h) a → Stands m cells pos (held stack.new.frames stack.new.depth) result a }
-    ensures falls { weight result + length (held stack.new.frames stack.new.depth) ≤ length (held stack.old.frames stack.old.depth) + 1 }
-{
-    let acc = fed_number(frame.acc, h);
-    if frame.left == 0 {
-        return HashTurn::Done(acc);
-    }
-    stack.push(HashFrame {
-        acc,
-        left: frame.left - 1,
-    });
-    HashTurn::Visit
-}
-
-/// The hash of the tree at `at`, or none.
-pub fn hash<R: LeafRule>(rule: &R, cells: &[Cell], at: usize) -> Option<u64>
-    requires { (t : Tree) × Lies cells.now at t × IsSound t }
-    ensures { (t : Tree) → Lies cells.now at t → result ≡ tree_hash (R.LeafRule.means rule.now) t }
-{
-    let mut stack = Stack::new(HashFrame { acc: 0, left: 0 });
-    let mut pos = at;
-    let mut turn = HashTurn::Visit;
+    let mut frame = match meet(rule, &node.cells[0]) {
+        Met::Answered(answer) => return answer,
+        Met::Opened(frame) => frame,
+    };
+    let mut cells = &node.cells[1..];
+    let mut open: ArrayVec<Frame, LEVELS> = ArrayVec::new();
     loop {
-        match turn {
-            HashTurn::Visit => {
-                match enter(rule, cells, pos, &mut stack) {
-                    None => return None,
-                    Some(next) => turn = next,
+        if frame.left == 0 {
+            match open.pop() {
+                None => return Some(frame.acc),
+                Some(around) => {
+                    frame = Frame {
+                        acc: fed_number(around.acc, frame.acc),
+                        ..around
+                    }
                 }
-                pos += 1;
             }
-            HashTurn::Done(h) => match stack.pop() {
-                None => return Some(h),
-                Some(frame) => turn = leave(frame, h, &mut stack),
-            },
+        } else {
+            let (cell, rest) = cells.split_first()?;
+            cells = rest;
+            frame.left -= 1;
+            match meet(rule, cell) {
+                Met::Answered(None) => return None,
+                Met::Answered(Some(h)) => frame.acc = fed_number(frame.acc, h),
+                Met::Opened(inner) => {
+                    open.push(frame);
+                    frame = inner;
+                }
+            }
         }
     }
 }

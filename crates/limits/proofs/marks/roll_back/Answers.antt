@@ -1,13 +1,8 @@
-use Rattle.std.proofs.Common.{ap, ◌∙◌}
-use Rattle.trees.specs.State.{State}
-use Rattle.trees.specs.Calls.{Answer, Outcome}
-use Rattle.shelf.specs.State.{state}
-use Rattle.shelf.proofs.States.{any_rule}
-use Rattle.limits.proofs.Tokens.{clash, roll_done}
+use Rattle.limits.proofs.Tokens.{spent_ok, tells, leaves, roll_done}
 use Rattle.limits.proofs.marks.roll_back.Goals as goal
 
-pub unreachable-requires : goal.unreachable-requires
-unreachable-requires c = clash (ap (λ (a : Answer). a.refusal) (c.in-Err.ensures.answer any_rule)) (ap (λ (o : Outcome). o.answer.refusal) (roll_done any_rule (state c.args.shelf.now) c.requires))
+pub unwrap-requires : goal.unwrap-requires
+unwrap-requires c = spent_ok c.roll_back.result (tells c.roll_back.ensures (roll_done c.args.shelf.now c.requires))
 
 pub returns : goal.returns
-returns c = ap (λ (s : State). s.saved) (c.roll_back.ensures.after any_rule ∙ ap (λ (o : Outcome). o.state) (roll_done any_rule (state c.args.shelf.now) c.requires))
+returns c = leaves c.roll_back.ensures (roll_done c.args.shelf.now c.requires)

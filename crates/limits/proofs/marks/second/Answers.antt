@@ -1,14 +1,10 @@
-use Rattle.std.proofs.Common.{sym, ap, ◌∙◌}
-use Rattle.trees.specs.State.{State}
-use Rattle.trees.specs.Calls.{Answer, Outcome}
+use Rattle.std.proofs.Common.{ap, ◌∙◌}
 use Rattle.trees.specs.Tests.{is_some}
-use Rattle.shelf.specs.State.{state}
-use Rattle.shelf.proofs.States.{any_rule}
-use Rattle.limits.proofs.Tokens.{clash, mark_not}
+use Rattle.limits.proofs.Tokens.{err, tells, leaves, mark_not}
 use Rattle.limits.proofs.marks.second.Goals as goal
 
-pub unreachable-requires : goal.unreachable-requires
-unreachable-requires c = clash (sym (ap (λ (o : Outcome). o.answer.refusal) (mark_not any_rule (state c.args.shelf.now) c.requires))) (sym (ap (λ (a : Answer). a.refusal) (c.in-Ok.ensures.answer any_rule)))
+pub unwrap_err-requires : goal.unwrap_err-requires
+unwrap_err-requires c = err c.mark.result (tells c.mark.ensures (mark_not c.args.shelf.now c.requires))
 
 pub returns : goal.returns
-returns c = ap (λ (s : State). is_some s.saved) (c.mark.ensures.after any_rule ∙ ap (λ (o : Outcome). o.state) (mark_not any_rule (state c.args.shelf.now) c.requires)) ∙ c.requires
+returns c = ap is_some (leaves c.mark.ensures (mark_not c.args.shelf.now c.requires)) ∙ c.requires

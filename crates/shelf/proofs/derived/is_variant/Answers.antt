@@ -1,42 +1,24 @@
-use Rattle.std.proofs.Common.{ℕ, ◌+◌, Bool, not, eqb, List, [], replicate, Some, Err, sym, ap, ◌∙◌, ap₂, arith}
-use Rattle.std.proofs.lemmas.Result.{err_from_is_err_and}
-use Rattle.trees.specs.Calls.{truth}
+use Rattle.std.proofs.Common.{◌≡◌, ◌+◌, eqb, sym, ap, ◌∙◌, not}
+use Rattle.trees.specs.Codes.{variant_number}
+use Rattle.trees.specs.declared.head.Head.TheVariants.{Enum as enum}
+use Rattle.trees.specs.Tree.{code}
 use Rattle.cells.specs.Layout.{root}
-use Rattle.trees.specs.Tests.{is_enum}
-use Rattle.board.specs.Answers.{told}
-use Rattle.shelf.specs.State.{state}
-use Rattle.shelf.proofs.States.{any_rule}
-use Rattle.shelf.proofs.Answered.{unseen, saw, unfit_root, enum_by_code, no_enum_by_code, asked_stops, asked_kind, asked_done, code_root}
+use Rattle.trees.specs.Tests.{node_at, is_enum}
+use Rattle.shelf.specs.Derived.{code_of}
+use Rattle.shelf.proofs.Spots.{at_node, at_head}
+use Rattle.shelf.proofs.Answered.{asked_done, code_root, unfit_root, enum_fit, same_codes, code_enum}
+use Rattle.shelf.proofs.States.{held}
 use Rattle.shelf.proofs.derived.is_variant.Goals as goal
 
--- the row before the look
-abbrev zeros : List ℕ
-zeros = replicate 32 0
-
-pub returns-in_err-look : goal.returns-in_err-look
-returns-in_err-look c =
-    let s = state c.args.shelf.now in
-    let i = c.args.slot in
-    let p = c.args.path.now in
-    let q = err_from_is_err_and c.from_residual.result c.from_residual.ensures.1 in
-    let e = c.in_err-look.field-0.0 in
-    ap (told (λ (b : Bool). truth (Some b)) []) (q.1 ∙ ap Err q.2)
-    ∙ asked_stops s i p c.args.kind e (unseen any_rule s i p zeros c.look.new.row e (omega arith) (c.in_err-look.ensures.answer any_rule))
-
-pub returns-then-look-lt4 : goal.returns-then-look-lt4
-returns-then-look-lt4 c =
-    let s = state c.args.shelf.now in
-    let i = c.args.slot in
-    let p = c.args.path.now in
-    let w = saw any_rule s i p zeros c.look.new.row c.in_ok-look.look (c.in_ok-look.ensures.answer any_rule) in
-    asked_kind s i p c.args.kind w.passed (unfit_root is_enum w.is ∙ ap not (no_enum_by_code (root w.goal) (omega (arith, w.code_is))))
-
-pub returns : goal.returns
-returns c =
-    let s = state c.args.shelf.now in
-    let i = c.args.slot in
-    let p = c.args.path.now in
-    let w = saw any_rule s i p zeros c.look.new.row c.in_ok-look.look (c.in_ok-look.ensures.answer any_rule) in
-    let h = root w.goal in
-    asked_done s i p c.args.kind _ w.passed (unfit_root is_enum w.is ∙ ap not (enum_by_code h (omega (arith, w.code_is))))
-    (ap₂ (λ (x y : ℕ). eqb x (4 + y)) (w.code_is ∙ sym (code_root w.is)) c.number.ensures)
+pub returns-in-Enum : goal.returns-in-Enum
+returns-in-Enum c =
+    let s = c.args.shelf.now in
+    let h = held c.shelf.invariant c.shelf.view_is in
+    let w = c.in_ok-spot.ensures.stands s h in
+    let v = c.in-Enum.own in
+    let n = c.in-Enum.name in
+    let i = c.in-Enum.index in
+    let e : enum v n i ≡ root w.1.goal = sym c.in-Enum.is ∙ at_head h w.1 in
+    let k : code_of (node_at s c.args.slot c.args.path.now) ≡ 4 + variant_number v = code_root (at_node h w.1) ∙ ap code (sym e) ∙ code_enum v n i in
+    asked_done s c.args.slot c.args.path.now c.args.kind _ w.0 (unfit_root is_enum (at_node h w.1) ∙ ap (λ x. not (is_enum x)) (sym e) ∙ ap not (enum_fit v n i))
+    (c.same_variant.ensures ∙ ap (λ q. eqb (variant_number q) (variant_number c.args.kind)) c.in-Enum.own-is ∙ same_codes v c.args.kind ∙ ap (λ n. eqb n (4 + variant_number c.args.kind)) (sym k))

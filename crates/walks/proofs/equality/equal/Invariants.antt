@@ -1,13 +1,11 @@
-use Rattle.std.proofs.Common.{length}
-use Rattle.trees.specs.Tree.{Tree}
-use Rattle.cells.specs.Layout.{Lies}
-use Rattle.walks.specs.Stack.{held}
+use Rattle.std.proofs.Common.{◌≡◌, ◌∷◌, reverse}
 use Rattle.trees.specs.Equal.{equal}
-use Rattle.walks.specs.EqualWalk.{Stands, weight}
+use Rattle.cells.specs.Views.{tree}
+use Rattle.walks.specs.EqualWalk.{outcome, AreLow, load}
 use Rattle.walks.proofs.equality.equal.Given as goal
 
-abbrev pub invariant-loop-turn : goal.invariant-loop-turn
-invariant-loop-turn g l = (t : Tree) × (u : Tree) × Lies l.cells l.a t × Lies l.cells l.b u × Stands (g.R.LeafRule.means l.rule) l.cells (held l.stack.frames l.stack.depth) l.turn (equal (g.R.LeafRule.means l.rule) t u)
+abbrev pub invariant-loop-open : goal.invariant-loop-open
+invariant-loop-open g l = (outcome (g.R.LeafRule.means l.rule) (l.frame ∷ reverse l.open.items) ≡ equal (g.R.LeafRule.means l.rule) (tree l.a) (tree l.b)) × AreLow (l.frame ∷ reverse l.open.items)
 
-abbrev pub decreases-loop-turn : goal.decreases-loop-turn
-decreases-loop-turn g l = weight (length l.cells) (held l.stack.frames l.stack.depth) l.turn
+abbrev pub decreases-loop-open : goal.decreases-loop-open
+decreases-loop-open g l = load (l.frame ∷ reverse l.open.items)

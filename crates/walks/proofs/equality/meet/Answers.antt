@@ -1,46 +1,51 @@
-use Rattle.std.proofs.Common.{true, length, Some}
-use Rattle.walks.specs.declared.equality.PairTurn.TheVariants.{Answered}
-use Rattle.walks.specs.EqualWalk.{left}
-use Rattle.walks.proofs.Made.{sound_low}
-use Rattle.walks.proofs.Walks.{asked_falls, opened_falls}
-use Rattle.walks.proofs.EqualWalks.{room, leaf_leaf, leaf_node, unlike, like, few, stands_by}
+use Rattle.std.proofs.Common.{◌≡◌, false, true, ◌&&◌, eqb, sym, refl, ap, ◌∙◌, ap₂, subst, ne_eqb}
+use Rattle.trees.specs.Tree.{count, named}
+use Rattle.trees.specs.Equal.{alike}
+use Rattle.cells.specs.Layout.{root, kids}
+use Rattle.cells.specs.Views.{tree}
+use Rattle.walks.specs.EqualWalk.{IsFrameOf}
+use Rattle.walks.proofs.HeadLaws.{not_leaf, sound_fits, children_apart, alike_named}
+use Rattle.walks.proofs.EqualWalks.{unlike_are, framed, within_is, frame_less}
 use Rattle.walks.proofs.equality.meet.Goals as goal
-
-pub returns-in-Some-leaf_of : goal.returns-in-Some-leaf_of
-returns-in-Some-leaf_of g c =
-    record {
-      comes = λ a s. leaf_leaf _ c.args.cells.now _ c.args.x c.args.y a s _ _ c.in-Some.p c.in-Some-leaf_of.q _ c.in-Some.ensures c.in-Some-leaf_of.ensures c.eq.ensures;
-      falls = asked_falls left (length c.args.cells.now) _;
-    }
-
-pub returns-in-None-leaf_of : goal.returns-in-None-leaf_of
-returns-in-None-leaf_of g c =
-    record {
-      comes = λ a s. leaf_node _ c.args.cells.now _ c.args.x c.args.y a s _ _ c.in-Some.p _ c.in-Some.ensures c.in-None-leaf_of.ensures c.beside.ensures;
-      falls = asked_falls left (length c.args.cells.now) _;
-    }
+use Rattle.walks.proofs.equality.meet.Goals.{then-not-alike-via-then-not-alike, then-not-alike-via-else-not-alike+then-len}
 
 pub returns-then-not-alike : goal.returns-then-not-alike
 returns-then-not-alike g c =
+    let t = tree c.args.x in
+    let u = tree c.args.y in
+    let a : c.alike.result ≡ alike (root t) (root u) = c.alike.ensures ∙ ap₂ alike c.head.ensures c.head-2.ensures in
+    let q : (alike (root t) (root u) && eqb (count (kids t)) (count (kids u))) ≡ false =
+    elim c.then-not-alike.branch [
+      | then-not-alike-via-then-not-alike w ↦ ap (λ b. b && eqb (count (kids t)) (count (kids u))) (sym a ∙ w.if-not-alike.true)
+      | then-not-alike-via-else-not-alike+then-len w ↦
+          ap₂ ◌&&◌ (sym a ∙ w.if-not-alike.false) (ne_eqb _ _ (λ e. w.if-len.true (w.len.ensures ∙ ap count c.children-ours.ensures.forest ∙ e ∙ sym (w.len-else-not-alike.ensures ∙ ap count c.children-theirs.ensures.forest))))
+    ] in
     record {
-      comes = λ a s. unlike _ c.args.cells.now _ c.args.x c.args.y a s _ _ c.in-None.ensures c.alike.result c.alike.ensures c.then-not-alike.either;
-      falls = asked_falls left (length c.args.cells.now) _;
+      answer = λ n. within_is (g.R.LeafRule.means c.args.rule.now) n t u ∙ unlike_are (g.R.LeafRule.means c.args.rule.now) _ (root t) (kids t) (root u) (kids u) (not_leaf c.head.result.now (root t) c.in_default.not-Leaf-0 c.head.ensures) q;
+      less = tt;
     }
 
-pub returns-else-a-b : goal.returns-else-a-b
-returns-else-a-b g c =
-    let f = c.frame_of.ensures in
-    let s = c.requires.1 in
-    let k = c.of-ours.ensures s.one s.lies_one (sound_low (length _) s.one s.sane_one) in
-    let l = c.of-theirs.ensures s.other s.lies_other (sound_low (length _) s.other s.sane_other) in
+pub frame_of-requires : goal.frame_of-requires
+frame_of-requires g c =
+    let t = tree c.args.x in
+    let u = tree c.args.y in
+    let a : alike (root t) (root u) ≡ true = ap₂ alike (sym c.head.ensures) (sym c.head-2.ensures) ∙ sym c.if-not-alike.ensures in
     record {
-      comes = λ a s.
-          stands_by _ c.args.cells.now _ _ (Answered (Some true)) a c.push.ensures
-          (like _ c.args.cells.now _ c.args.x c.args.y a s _ _ c.in-None.ensures c.alike.result c.alike.ensures c.of-ours.result c.of-theirs.result
-          (c.of-ours.ensures s.one s.lies_one (sound_low (length _) s.one s.sane_one)) (c.of-theirs.ensures s.other s.lies_other (sound_low (length _) s.other s.sane_other))
-          c.frame_of.result c.if-a-b.false c.if-not-alike.false f.0 f.1 f.2 f.3 f.4);
-      falls =
-          opened_falls left (length c.args.cells.now) _ _ _ c.push.ensures
-          (few _ c.args.cells.now _ c.args.x c.args.y c.requires.0 s _ _ c.in-None.ensures c.alike.result c.alike.ensures c.of-ours.result c.of-theirs.result k l _ c.frame_of.result.next f.2)
-          (room _ c.args.cells.now _ c.args.x c.args.y c.requires.0 s);
+      ours = children_apart _ t _ c.args.x.sane c.head.ensures c.children-ours.ensures.forest;
+      theirs = λ n. children_apart (root u) u _ c.args.y.sane refl c.children-theirs.ensures.forest (sym (alike_named (root t) (root u) a) ∙ ap named (sym c.head.ensures) ∙ n);
+    }
+
+pub returns-else-len : goal.returns-else-len
+returns-else-len g c =
+    let t = tree c.args.x in
+    let u = tree c.args.y in
+    let a : alike (root t) (root u) ≡ true = ap₂ alike (sym c.head.ensures) (sym c.head-2.ensures) ∙ sym c.if-not-alike.ensures in
+    let k : count (kids t) ≡ count (kids u) = ap count (sym c.children-ours.ensures.forest) ∙ sym c.len.ensures ∙ c.if-len.false ∙ c.len-else-not-alike.ensures ∙ ap count c.children-theirs.ensures.forest in
+    let r : IsFrameOf (root t) c.children-ours.result c.children-theirs.result c.frame_of.result = subst (λ h. IsFrameOf h c.children-ours.result c.children-theirs.result c.frame_of.result) c.head.ensures c.frame_of.ensures in
+    record {
+      answer = λ n.
+          within_is (g.R.LeafRule.means c.args.rule.now) n t u
+          ∙ framed (g.R.LeafRule.means c.args.rule.now) _ (root t) (kids t) (root u) (kids u) c.children-ours.result c.children-theirs.result c.frame_of.result (not_leaf c.head.result.now (root t) c.in_default.not-Leaf-0 c.head.ensures)
+          (sound_fits t c.args.x.sane) k a c.children-ours.ensures.forest c.children-theirs.ensures.forest r;
+      less = frame_less (root t) t u c.children-ours.result c.children-theirs.result c.frame_of.result c.children-ours.ensures.forest c.children-theirs.ensures.forest r;
     }

@@ -1,40 +1,34 @@
-use Rattle.std.proofs.Common.{◌<◌, length, sym, ap, ◌∙◌, arith, rules}
+use Rattle.std.proofs.Common.{◌-◌, drop, length, reverse, sym, ap, arith, length-drop}
+use Rattle.std.proofs.lemmas.List.{take_all}
 use Rattle.trees.specs.Hash.{hash}
-use Rattle.cells.proofs.Layouts.{lies_unique}
-use Rattle.walks.specs.HashWalk.{weight}
-use Rattle.walks.specs.declared.hashing.HashTurn.TheVariants.{Visit}
-use Rattle.walks.proofs.HashWalks.{within, turned, few, finished, start}
+use Rattle.walks.proofs.Stacks.{pushed}
+use Rattle.walks.proofs.HashWalks.{answered_root, begun, no_hash, fed, opened}
 use Rattle.walks.proofs.hashing.hash.Goals as goal
 
-pub loop-turn-init : goal.loop-turn-init
-loop-turn-init g c = (c.requires.0, c.requires.1, start _ c.args.cells.now c.args.at _ c.requires.0 c.requires.1 c.requires.2 c.new-stack.ensures)
+pub returns-in-Answered : goal.returns-in-Answered
+unfolding hash
+returns-in-Answered g c = let n = c.args.node in sym (answered_root (g.R.LeafRule.means c.args.rule.now) n.cells.now c.index-node-0.result c.in-Answered.answer n.whole n.sane c.in-Answered.ensures)
 
-pub enter-requires : goal.enter-requires
-enter-requires g c = (hash _ c.loop-turn.invariant.0, turned _ c.args.cells.now c.loop-turn.pos _ _ Visit _ c.in-Visit.is c.loop-turn.invariant.2)
+pub loop-frame-init : goal.loop-frame-init
+unfolding hash
+loop-frame-init g c =
+    let n = c.args.node in
+    let cs = n.cells.now in
+    begun (g.R.LeafRule.means c.args.rule.now) cs _ c.index-node-0.result c.in-Opened.frame _ n.whole n.sane c.in-Opened.ensures (take_all (length cs - 1) (drop 1 cs) (omega (arith, length-drop 1 cs))) (ap reverse c.new-open.ensures)
 
-pub returns-in-None : goal.returns-in-None
-returns-in-None g c = λ t h.
-    let s = turned _ c.args.cells.now c.loop-turn.pos _ _ Visit _ c.in-Visit.is c.loop-turn.invariant.2 in
-    sym (c.in-None.ensures.comes (hash _ c.loop-turn.invariant.0) s) ∙ ap (hash (g.R.LeafRule.means c.args.rule.now)) (lies_unique c.loop-turn.invariant.1 h)
+pub returns-in-Answered-None : goal.returns-in-Answered-None
+returns-in-Answered-None g c =
+    let l = c.loop-frame in
+    let r = c.in-Answered-None in
+    sym (no_hash (g.R.LeafRule.means c.args.rule.now) _ l.frame (reverse l.open.items) (l.frame.left - 1) c.in_ok-cell.cell.now c.in_ok-cell.rest.now l.cells.now l.invariant c.in_ok-cell.ensures.cases.0 (omega arith) r.field-0 r.ensures r.field-0-is)
 
-pub overflow_add-pos : goal.overflow_add-pos
-overflow_add-pos g c =
-    let s = turned _ c.args.cells.now c.loop-turn.pos _ _ Visit _ c.in-Visit.is c.loop-turn.invariant.2 in
-    let h : c.loop-turn.pos < length c.args.cells.now = within c.args.cells.now c.loop-turn.pos _ s in
-    search rules
+pub loop-frame-preserved-in-Answered-Some : goal.loop-frame-preserved-in-Answered-Some
+loop-frame-preserved-in-Answered-Some g c =
+    let l = c.loop-frame in
+    let r = c.in-Answered-Some in
+    fed (g.R.LeafRule.means c.args.rule.now) _ l.frame (reverse l.open.items) (l.frame.left - 1) c.in_ok-cell.cell.now c.in_ok-cell.rest.now l.cells.now l.invariant c.in_ok-cell.ensures.cases.0 (omega arith) r.field-0 r.h _ r.ensures r.field-0-is c.fed_number-in-Answered-Some.ensures
 
-pub loop-turn-smaller-in-Visit : goal.loop-turn-smaller-in-Visit
-loop-turn-smaller-in-Visit g c =
-    let s = turned _ c.args.cells.now c.loop-turn.pos _ _ Visit _ c.in-Visit.is c.loop-turn.invariant.2 in
-    let h : c.loop-turn.pos < length c.args.cells.now = within c.args.cells.now c.loop-turn.pos _ s in
-    let f = c.in-Some.ensures.falls in
-    let w = ap weight c.in-Visit.is in
-    omega arith
-
-pub returns-in-None-pop : goal.returns-in-None-pop
-returns-in-None-pop g c = λ t h.
-    let s = turned _ c.args.cells.now c.loop-turn.pos _ _ _ _ c.in-Done.is c.loop-turn.invariant.2 in
-    sym (finished _ c.args.cells.now c.loop-turn.pos _ _ _ s c.in-None-pop.ensures.0) ∙ ap (hash (g.R.LeafRule.means c.args.rule.now)) (lies_unique c.loop-turn.invariant.1 h)
-
-pub leave-turn-requires : goal.leave-turn-requires
-leave-turn-requires g c = omega (arith, few _ c.args.cells.now c.loop-turn.pos _ _ _ c.loop-turn.invariant.2, ap length c.in-Some-pop.ensures)
+pub loop-frame-preserved : goal.loop-frame-preserved
+loop-frame-preserved g c =
+    let l = c.loop-frame in
+    opened (g.R.LeafRule.means c.args.rule.now) _ l.frame (reverse l.open.items) (l.frame.left - 1) c.in_ok-cell.cell.now c.in_ok-cell.rest.now l.cells.now l.invariant c.in_ok-cell.ensures.cases.0 (omega arith) c.in-Opened-meet.inner _ c.in-Opened-meet.ensures (pushed _ _ _ c.push.ensures.items)

@@ -1,13 +1,11 @@
-use Rattle.std.proofs.Common.{◌+◌, ◌-◌, ◌*◌, length}
-use Rattle.trees.specs.Tree.{Tree}
+use Rattle.std.proofs.Common.{◌+◌, ◌*◌, length, reverse}
 use Rattle.trees.specs.Hash.{hash}
-use Rattle.cells.specs.Layout.{Lies}
-use Rattle.walks.specs.Stack.{held}
-use Rattle.walks.specs.HashWalk.{Stands, weight}
+use Rattle.cells.specs.Views.{tree}
+use Rattle.walks.specs.HashWalk.{Walks}
 use Rattle.walks.proofs.hashing.hash.Given as goal
 
-abbrev pub invariant-loop-turn : goal.invariant-loop-turn
-invariant-loop-turn g l = (t : Tree) × Lies l.cells l.at t × Stands (g.R.LeafRule.means l.rule) l.cells l.pos (held l.stack.frames l.stack.depth) l.turn (hash (g.R.LeafRule.means l.rule) t)
+abbrev pub invariant-loop-frame : goal.invariant-loop-frame
+invariant-loop-frame g l = Walks (g.R.LeafRule.means l.rule) l.frame (reverse l.open.items) l.cells (hash (g.R.LeafRule.means l.rule) (tree l.node))
 
-abbrev pub decreases-loop-turn : goal.decreases-loop-turn
-decreases-loop-turn g l = 2 * (length l.cells - l.pos) + weight l.turn + length (held l.stack.frames l.stack.depth)
+abbrev pub decreases-loop-frame : goal.decreases-loop-frame
+decreases-loop-frame g l = 2 * length l.cells + length l.open.items

@@ -1,40 +1,51 @@
-use Rattle.std.proofs.Common.{◌∷◌, sym, ◌∙◌, ap₂}
+use Rattle.std.proofs.Common.{reverse, ap, sym, ◌∙◌, arith}
 use Rattle.trees.specs.Compare.{compare}
-use Rattle.cells.proofs.Layouts.{lies_unique}
-use Rattle.walks.specs.Stack.{held}
-use Rattle.walks.specs.CompareWalk.{Stands}
-use Rattle.walks.specs.declared.ordering.OrderTurn.TheVariants.{Ask, Answered}
-use Rattle.walks.proofs.CompareWalks.{turned, stands_by, finished, start}
+use Rattle.cells.specs.Views.{tree}
+use Rattle.cells.proofs.Sounds.{sound_height}
+use Rattle.walks.proofs.Stacks.{pushed}
+use Rattle.walks.proofs.CompareWalks.{begun, clash_around, on_around, low_around, less_around, alone, none_met, clash, goes_on, on_low, on_less, opened, opened_low, opened_less}
 use Rattle.walks.proofs.ordering.compare.Goals as goal
-use Rattle.walks.proofs.ordering.compare.Goals.{In-Ask, In-Answered, In-Some-pop}
-use Rattle.walks.proofs.ordering.compare.Given.{Over}
 
-asking : (g : Over) (c : In-Ask g) → Stands (g.R.LeafRule.means c.args.rule.now) c.args.cells.now (held c.loop-turn.stack.frames c.loop-turn.stack.depth) (Ask c.in-Ask.x c.in-Ask.y) (compare (g.R.LeafRule.means c.args.rule.now) c.loop-turn.invariant.0 c.loop-turn.invariant.1)
-asking g c = turned (g.R.LeafRule.means c.args.rule.now) c.args.cells.now (held c.loop-turn.stack.frames c.loop-turn.stack.depth) c.loop-turn.turn (Ask c.in-Ask.x c.in-Ask.y) _ c.in-Ask.is c.loop-turn.invariant.4
+pub returns-in-Answered : goal.returns-in-Answered
+unfolding compare
+returns-in-Answered g c = sym (c.in-Answered.ensures.answer 15)
 
-answered : (g : Over) (c : In-Answered g) → Stands (g.R.LeafRule.means c.args.rule.now) c.args.cells.now (held c.loop-turn.stack.frames c.loop-turn.stack.depth) (Answered c.in-Answered.answer) (compare (g.R.LeafRule.means c.args.rule.now) c.loop-turn.invariant.0 c.loop-turn.invariant.1)
-answered g c = turned (g.R.LeafRule.means c.args.rule.now) c.args.cells.now (held c.loop-turn.stack.frames c.loop-turn.stack.depth) c.loop-turn.turn (Answered c.in-Answered.answer) _ c.in-Answered.is c.loop-turn.invariant.4
+pub loop-open-init : goal.loop-open-init
+unfolding compare
+loop-open-init g c =
+    begun (g.R.LeafRule.means c.args.rule.now) c.in-Opened.frame _ _ (ap reverse c.new-open.ensures) (omega (arith, c.in-Opened.ensures.less.0, sound_height 16 (tree c.args.a) c.args.a.sane, sound_height 16 (tree c.args.b) c.args.b.sane)) (c.in-Opened.ensures.answer 15)
 
-popped : (g : Over) (c : In-Some-pop g) → Stands (g.R.LeafRule.means c.args.rule.now) c.args.cells.now (c.in-Some-pop.frame ∷ held c.pop.new.self.frames c.pop.new.self.depth) (Answered c.in-Answered.answer) (compare (g.R.LeafRule.means c.args.rule.now) c.loop-turn.invariant.0 c.loop-turn.invariant.1)
-popped g c = stands_by (g.R.LeafRule.means c.args.rule.now) c.args.cells.now _ (held c.loop-turn.stack.frames c.loop-turn.stack.depth) (Answered c.in-Answered.answer) _ (sym c.in-Some-pop.ensures) (turned (g.R.LeafRule.means c.args.rule.now) c.args.cells.now (held c.loop-turn.stack.frames c.loop-turn.stack.depth) c.loop-turn.turn (Answered c.in-Answered.answer) _ c.in-Answered.is c.loop-turn.invariant.4)
+pub loop-open-preserved-in-Some-pop : goal.loop-open-preserved-in-Some-pop
+loop-open-preserved-in-Some-pop g c =
+    let r = c.in_ok-take-in-Some-pop in
+    (on_around (g.R.LeafRule.means c.args.rule.now) c.loop-open.frame (reverse c.loop-open.open.items) c.in-None.ensures c.in-Some-pop.around (reverse c.pop.new.self.items) (pushed _ _ _ c.in-Some-pop.ensures.items) c.take.new.self r.ensures ∙ c.loop-open.invariant.0, low_around (g.R.LeafRule.means c.args.rule.now) c.loop-open.frame (reverse c.loop-open.open.items) c.in-None.ensures c.in-Some-pop.around (reverse c.pop.new.self.items) (pushed _ _ _ c.in-Some-pop.ensures.items) c.take.new.self r.ensures c.loop-open.invariant.1)
 
-pub loop-turn-init : goal.loop-turn-init
-loop-turn-init g c =
-    let p = c.requires.first in
-    let q = c.requires.second in
-    (p.0, q.0, p.1, q.1, start _ c.args.cells.now c.args.a c.args.b _ p.0 q.0 p.1 q.1 p.2 q.2 c.new-stack.ensures)
+pub returns-in_err-partner-in-Some : goal.returns-in_err-partner-in-Some
+returns-in_err-partner-in-Some g c = c.from_residual-in_err-partner-in-Some.ensures ∙ sym (alone (g.R.LeafRule.means c.args.rule.now) c.loop-open.frame (reverse c.loop-open.open.items) (c.in-Some.pair, c.next.new.self) c.in-Some.ensures c.in_err-partner-in-Some.was) ∙ c.loop-open.invariant.0
 
-pub returns-in-None : goal.returns-in-None
-returns-in-None g c = λ t u lt lu.
-    sym (c.in-None.ensures.comes _ (asking g (goal.at.returns-in-None g c).In-Ask))
-    ∙ ap₂ (compare (g.R.LeafRule.means c.args.rule.now)) (lies_unique c.loop-turn.invariant.2 lt) (lies_unique c.loop-turn.invariant.3 lu)
+pub returns-in_err-answer-in-Answered-meet : goal.returns-in_err-answer-in-Answered-meet
+returns-in_err-answer-in-Answered-meet g c =
+    c.from_residual-in_err-answer-in-Answered-meet.ensures ∙ sym (none_met (g.R.LeafRule.means c.args.rule.now) c.loop-open.frame (reverse c.loop-open.open.items) (c.in-Some.pair, c.next.new.self) c.in-Some.ensures c.in_ok-partner-in-Some.partner c.in_ok-partner-in-Some.was c.loop-open.invariant.1 c.in-Answered-meet.answer c.in-Answered-meet.ensures.answer c.in_err-answer-in-Answered-meet.was) ∙ c.loop-open.invariant.0
 
-pub returns-in-None-pop : goal.returns-in-None-pop
-returns-in-None-pop g c = λ t u lt lu.
-    sym (finished _ c.args.cells.now _ c.in-Answered.answer _ (answered g (goal.at.returns-in-None-pop g c).In-Answered) c.in-None-pop.ensures.0)
-    ∙ ap₂ (compare (g.R.LeafRule.means c.args.rule.now)) (lies_unique c.loop-turn.invariant.2 lt) (lies_unique c.loop-turn.invariant.3 lu)
+pub loop-open-preserved : goal.loop-open-preserved
+loop-open-preserved g c = (opened (g.R.LeafRule.means c.args.rule.now) c.loop-open.frame (reverse c.loop-open.open.items) (c.in-Some.pair, c.next.new.self) c.in-Some.ensures c.in_ok-partner-in-Some.partner c.in_ok-partner-in-Some.was c.loop-open.invariant.1 c.in-Opened-meet.inner c.in-Opened-meet.ensures.answer c.in-Opened-meet.ensures.less _ (pushed _ _ _ c.push.ensures.items) ∙ c.loop-open.invariant.0, opened_low (g.R.LeafRule.means c.args.rule.now) c.loop-open.frame (reverse c.loop-open.open.items) (c.in-Some.pair, c.next.new.self) c.in-Some.ensures c.in_ok-partner-in-Some.partner c.in_ok-partner-in-Some.was c.loop-open.invariant.1 c.in-Opened-meet.inner c.in-Opened-meet.ensures.answer c.in-Opened-meet.ensures.less _ (pushed _ _ _ c.push.ensures.items))
 
-pub returns-in-None-by_name : goal.returns-in-None-by_name
-returns-in-None-by_name g c = λ t u lt lu.
-    sym (c.in-None-by_name.ensures.comes (g.R.LeafRule.means c.args.rule.now) _ (popped g (goal.at.returns-in-None-by_name g c).In-Some-pop))
-    ∙ ap₂ (compare (g.R.LeafRule.means c.args.rule.now)) (lies_unique c.loop-turn.invariant.2 lt) (lies_unique c.loop-turn.invariant.3 lu)
+pub loop-open-smaller-in-Some-pop : goal.loop-open-smaller-in-Some-pop
+loop-open-smaller-in-Some-pop g c = let r = c.in_ok-take-in-Some-pop in less_around (g.R.LeafRule.means c.args.rule.now) c.loop-open.frame (reverse c.loop-open.open.items) c.in-None.ensures c.in-Some-pop.around (reverse c.pop.new.self.items) (pushed _ _ _ c.in-Some-pop.ensures.items) c.take.new.self r.ensures
+
+pub loop-open-smaller : goal.loop-open-smaller
+loop-open-smaller g c = opened_less (g.R.LeafRule.means c.args.rule.now) c.loop-open.frame (reverse c.loop-open.open.items) (c.in-Some.pair, c.next.new.self) c.in-Some.ensures c.in_ok-partner-in-Some.partner c.in_ok-partner-in-Some.was c.loop-open.invariant.1 c.in-Opened-meet.inner c.in-Opened-meet.ensures.answer c.in-Opened-meet.ensures.less _ (pushed _ _ _ c.push.ensures.items)
+
+pub returns-in_err-take-in-Some-pop : goal.returns-in_err-take-in-Some-pop
+returns-in_err-take-in-Some-pop g c = c.from_residual.ensures ∙ sym (clash_around (g.R.LeafRule.means c.args.rule.now) c.loop-open.frame (reverse c.loop-open.open.items) c.in-None.ensures c.in-Some-pop.around (reverse c.pop.new.self.items) (pushed _ _ _ c.in-Some-pop.ensures.items) c.in_err-take-in-Some-pop.ensures) ∙ c.loop-open.invariant.0
+
+pub returns-in_err-take-in-Answered-meet : goal.returns-in_err-take-in-Answered-meet
+returns-in_err-take-in-Answered-meet g c = c.from_residual-in_err-take-in-Answered-meet.ensures ∙ sym (clash (g.R.LeafRule.means c.args.rule.now) c.loop-open.frame (reverse c.loop-open.open.items) (c.in-Some.pair, c.next.new.self) c.in-Some.ensures c.in_ok-partner-in-Some.partner c.in_ok-partner-in-Some.was c.loop-open.invariant.1 c.in-Answered-meet.answer c.in-Answered-meet.ensures.answer c.in_ok-answer-in-Answered-meet.field-0 c.in_ok-answer-in-Answered-meet.was c.in_err-take-in-Answered-meet.ensures) ∙ c.loop-open.invariant.0
+
+pub loop-open-smaller-in_ok-take-in-Answered-meet : goal.loop-open-smaller-in_ok-take-in-Answered-meet
+loop-open-smaller-in_ok-take-in-Answered-meet g c = on_less (g.R.LeafRule.means c.args.rule.now) c.loop-open.frame (reverse c.loop-open.open.items) (c.in-Some.pair, c.next.new.self) c.in-Some.ensures c.in_ok-partner-in-Some.partner c.in_ok-partner-in-Some.was c.loop-open.invariant.1 c.in-Answered-meet.answer c.in-Answered-meet.ensures.answer c.in_ok-answer-in-Answered-meet.field-0 c.in_ok-answer-in-Answered-meet.was c.take-in-Answered-meet.new.self c.in_ok-take-in-Answered-meet.ensures
+
+pub loop-open-preserved-in_ok-take-in-Answered-meet : goal.loop-open-preserved-in_ok-take-in-Answered-meet
+loop-open-preserved-in_ok-take-in-Answered-meet g c =
+    let t = c.take-in-Answered-meet.new.self in
+    (goes_on (g.R.LeafRule.means c.args.rule.now) c.loop-open.frame (reverse c.loop-open.open.items) (c.in-Some.pair, c.next.new.self) c.in-Some.ensures c.in_ok-partner-in-Some.partner c.in_ok-partner-in-Some.was c.loop-open.invariant.1 c.in-Answered-meet.answer c.in-Answered-meet.ensures.answer c.in_ok-answer-in-Answered-meet.field-0 c.in_ok-answer-in-Answered-meet.was t c.in_ok-take-in-Answered-meet.ensures ∙ c.loop-open.invariant.0, on_low (g.R.LeafRule.means c.args.rule.now) c.loop-open.frame (reverse c.loop-open.open.items) (c.in-Some.pair, c.next.new.self) c.in-Some.ensures c.in_ok-partner-in-Some.partner c.in_ok-partner-in-Some.was c.loop-open.invariant.1 c.in-Answered-meet.answer c.in-Answered-meet.ensures.answer c.in_ok-answer-in-Answered-meet.field-0 c.in_ok-answer-in-Answered-meet.was t c.in_ok-take-in-Answered-meet.ensures)

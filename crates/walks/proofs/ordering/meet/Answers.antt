@@ -1,56 +1,58 @@
-use Rattle.std.proofs.Common.{length, Equal}
-use Rattle.cells.specs.Layout.{kids}
-use Rattle.walks.specs.declared.ordering.OrderTurn.TheVariants.{Answered}
-use Rattle.walks.specs.CompareWalk.{left}
-use Rattle.walks.proofs.Made.{sound_low}
-use Rattle.walks.proofs.Walks.{opened_falls}
-use Rattle.walks.proofs.CompareWalks.{room, leaf_leaf, leaf_node, unlike, no_way, on_the_way, few, stands_by, met_falls}
+use Rattle.std.proofs.Common.{◌≡◌, false, true, sym, refl, ap, ◌∙◌, ap₂, subst}
+use Rattle.trees.specs.Tree.{named}
+use Rattle.trees.specs.Equal.{alike}
+use Rattle.cells.specs.Layout.{root, kids}
+use Rattle.cells.specs.Views.{tree}
+use Rattle.walks.specs.CompareWalk.{IsFrame, IsUneven}
+use Rattle.walks.proofs.HeadLaws.{not_leaf, sound_fits, children_apart, alike_named}
+use Rattle.walks.proofs.CompareWalks.{unlike_are, uneven, framed, within_is, frame_less}
 use Rattle.walks.proofs.ordering.meet.Goals as goal
 
-pub returns-in-Some-leaf_of : goal.returns-in-Some-leaf_of
-returns-in-Some-leaf_of g c =
-    record {
-      comes = λ a s. leaf_leaf _ c.args.cells.now _ c.args.x c.args.y a s _ _ c.in-Some.p c.in-Some-leaf_of.q _ c.in-Some.ensures c.in-Some-leaf_of.ensures c.cmp.ensures;
-      falls = met_falls (length c.args.cells.now) _ c.args.x c.args.y c.cmp.result;
-    }
-
-pub returns-in-None-leaf_of : goal.returns-in-None-leaf_of
-returns-in-None-leaf_of g c = record { comes = λ a s. leaf_node _ c.args.cells.now _ c.args.x c.args.y a s _ _ c.in-Some.p c.in-Some.ensures c.in-None-leaf_of.ensures; falls = tt }
-
 pub returns-then-not-alike : goal.returns-then-not-alike
-returns-then-not-alike g c = record { comes = λ a s. unlike _ c.args.cells.now _ c.args.x c.args.y a s _ _ c.in-None.ensures c.alike.result c.alike.ensures c.if-not-alike.true; falls = tt }
-
-pub way_of-requires : goal.way_of-requires
-way_of-requires g c =
-    let s = c.requires.1 in (
-      kids s.one,
-      kids s.other,
-      c.of-ours.ensures s.one s.lies_one (sound_low (length _) s.one s.sane_one),
-      c.of-theirs.ensures s.other s.lies_other (sound_low (length _) s.other s.sane_other),
-    )
-
-pub returns-in-None-way_of : goal.returns-in-None-way_of
-returns-in-None-way_of g c =
+returns-then-not-alike g c =
+    let t = tree c.args.x in
+    let u = tree c.args.y in
+    let m = g.R.LeafRule.means c.args.rule.now in
+    let a : alike (root t) (root u) ≡ false = ap₂ alike (sym c.head.ensures) (sym c.head-2.ensures) ∙ sym c.if-not-alike.ensures in
     record {
-      comes = λ a s.
-          no_way _ c.args.cells.now _ c.args.x c.args.y a s _ _ c.in-None.ensures c.alike.result c.alike.ensures c.of-ours.result c.of-theirs.result
-          (c.of-ours.ensures s.one s.lies_one (sound_low (length _) s.one s.sane_one)) (c.of-theirs.ensures s.other s.lies_other (sound_low (length _) s.other s.sane_other))
-          c.if-not-alike.false c.in-None-way_of.ensures.chosen;
-      falls = tt;
+      answer = λ n. within_is m n t u ∙ unlike_are m _ (root t) (kids t) (root u) (kids u) (not_leaf c.head.result.now (root t) c.in_default.not-Leaf-0 c.head.ensures) a;
+      less = tt;
     }
 
-pub returns-in-Some-way_of : goal.returns-in-Some-way_of
-returns-in-Some-way_of g c =
-    let s = c.requires.1 in
-    let n =
-    few _ c.args.cells.now _ c.args.x c.args.y c.requires.0 s _ _ c.in-None.ensures c.alike.result c.alike.ensures c.of-ours.result c.of-theirs.result
-    (c.of-ours.ensures s.one s.lies_one (sound_low (length _) s.one s.sane_one)) (c.of-theirs.ensures s.other s.lies_other (sound_low (length _) s.other s.sane_other))
-    c.if-not-alike.false in
+pub frame_of-requires : goal.frame_of-requires
+frame_of-requires g c =
+    let t = tree c.args.x in
+    let u = tree c.args.y in
+    let a : alike (root t) (root u) ≡ true = ap₂ alike (sym c.head.ensures) (sym c.head-2.ensures) ∙ sym c.if-not-alike.ensures in
+    λ n. children_apart (root u) u _ c.args.y.sane refl c.children-in_default.ensures.forest (sym (alike_named (root t) (root u) a) ∙ ap named (sym c.head.ensures) ∙ n)
+
+pub returns-in-None : goal.returns-in-None
+returns-in-None g c =
+    let t = tree c.args.x in
+    let u = tree c.args.y in
+    let m = g.R.LeafRule.means c.args.rule.now in
+    let a : alike (root t) (root u) ≡ true = ap₂ alike (sym c.head.ensures) (sym c.head-2.ensures) ∙ sym c.if-not-alike.ensures in
+    let r : IsUneven (root t) c.children.result c.children-in_default.result = subst (λ h. IsUneven h c.children.result c.children-in_default.result) c.head.ensures c.in-None.ensures in
     record {
-      comes = λ a s.
-          stands_by _ c.args.cells.now _ _ (Answered Equal) a c.push.ensures
-          (on_the_way _ c.args.cells.now _ c.args.x c.args.y a s _ _ c.in-None.ensures c.alike.result c.alike.ensures c.of-ours.result c.of-theirs.result
-          (c.of-ours.ensures s.one s.lies_one (sound_low (length _) s.one s.sane_one)) (c.of-theirs.ensures s.other s.lies_other (sound_low (length _) s.other s.sane_other))
-          c.if-not-alike.false c.in-Some-way_of.way c.in-Some-way_of.ensures.chosen c.in-Some-way_of.ensures.fields);
-      falls = opened_falls left (length c.args.cells.now) _ _ _ c.push.ensures n (room _ c.args.cells.now _ c.args.x c.args.y c.requires.0 s);
+      answer = λ n.
+          within_is m n t u
+          ∙ uneven m n (root t) (kids t) (root u) (kids u) (not_leaf c.head.result.now (root t) c.in_default.not-Leaf-0 c.head.ensures) a (sound_fits t c.args.x.sane) (sound_fits u c.args.y.sane)
+          c.children.result c.children-in_default.result c.children.ensures.forest c.children-in_default.ensures.forest r;
+      less = tt;
+    }
+
+pub returns-in-Some : goal.returns-in-Some
+returns-in-Some g c =
+    let t = tree c.args.x in
+    let u = tree c.args.y in
+    let m = g.R.LeafRule.means c.args.rule.now in
+    let fr = c.in-Some.frame in
+    let a : alike (root t) (root u) ≡ true = ap₂ alike (sym c.head.ensures) (sym c.head-2.ensures) ∙ sym c.if-not-alike.ensures in
+    let r : IsFrame (root t) c.children.result c.children-in_default.result fr = subst (λ h. IsFrame h c.children.result c.children-in_default.result fr) c.head.ensures c.in-Some.ensures in
+    record {
+      answer = λ n.
+          within_is m n t u
+          ∙ framed m n (root t) (kids t) (root u) (kids u) (not_leaf c.head.result.now (root t) c.in_default.not-Leaf-0 c.head.ensures) a (sound_fits t c.args.x.sane) (sound_fits u c.args.y.sane)
+          c.children.result c.children-in_default.result c.children.ensures.forest c.children-in_default.ensures.forest fr r;
+      less = frame_less (root t) t u c.children.result c.children-in_default.result fr c.children.ensures.forest c.children-in_default.ensures.forest r;
     }

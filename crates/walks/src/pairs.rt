@@ -1,0 +1,127 @@
+//! Children of two alike nodes, each with its partner.
+ghost use Rattle.std.specs.Prelude.{◌≡◌, true};
+ghost use Rattle.trees.specs.Name.{distinct};
+ghost use Rattle.trees.specs.Tree.{labels};
+ghost use Rattle.cells.specs.Views.{forest, TrailsIn};
+
+use cells::{Kids, Node};
+use names::Name;
+
+/// Children of unlike names. The one that is looked for is often the sibling after the last that
+/// was found: the hint begins with it, and it is tried first.
+#[derive(Clone, Copy)]
+pub struct Fields<'a> {
+    row: Kids<'a>,
+    hint: Kids<'a>,
+    ghost apart: { distinct (labels (forest row)) ≡ true },
+    ghost trails: { TrailsIn row hint },
+}
+
+impl<'a> Fields<'a> {
+    ghost use Rattle.walks.specs.Pairs.{Finds};
+
+    /// All of a row.
+    pub fn new(row: Kids<'a>) -> Fields<'a>
+        requires { distinct (labels (forest row)) ≡ true }
+        ensures { result.row ≡ row.entry }
+    {
+        Fields { row, hint: row }
+    }
+
+    /// The child under a name, with the hint behind it.
+    pub fn find(self, name: &Name) -> Option<(Node<'a>, Fields<'a>)>
+        ensures { Finds self.entry name.now result }
+    {
+        // Left by its label as soon as a name is found, by the hint or among all.
+        let mut rest = self.hint;
+        let found = 'search: {
+            if let Some((child, others)) = rest.split_first() {
+                if *name == *child.label() {
+                    break 'search Some((child, others));
+                }
+            }
+            rest = self.row;
+            while let Some((child, others)) = rest.split_first() {
+                if *name == *child.label() {
+                    break 'search Some((child, others));
+                }
+                rest = others;
+            }
+            None
+        };
+        let (child, hint) = found?;
+        Some((
+            child,
+            Fields {
+                row: self.row,
+                hint,
+            },
+        ))
+    }
+}
+
+/// Children against which others are asked: by place those that are left, by name all.
+#[derive(Clone, Copy)]
+pub enum Partners<'a> {
+    ByPlace(Kids<'a>),
+    ByName(Fields<'a>),
+}
+
+impl Default for Partners<'_> {
+    fn default() -> Self {
+        Partners::ByPlace(Kids::default())
+    }
+}
+
+/// Children that are left to be asked about, in order, and their partners.
+#[derive(Clone, Copy, Default)]
+pub struct Pairs<'a> {
+    pub ours: Kids<'a>,
+    pub theirs: Partners<'a>,
+}
+
+/// A child, and its partner, if there is one under its name.
+#[derive(Clone, Copy)]
+pub struct Pair<'a> {
+    pub ours: Node<'a>,
+    pub theirs: Option<Node<'a>>,
+}
+
+impl<'a> Pairs<'a> {
+    ghost use Rattle.walks.specs.Pairs.{TakesFirst};
+
+    /// The first pair, which is taken away. By place, the shorter row decides how many there are.
+    #[inline(always)]
+    pub fn next(&mut self) -> Option<Pair<'a>>
+        ensures { TakesFirst self.old self.new result }
+    {
+        let (child, ours) = self.ours.split_first()?;
+        match self.theirs {
+            Partners::ByPlace(row) => {
+                let (partner, rest) = row.split_first()?;
+                self.ours = ours;
+                self.theirs = Partners::ByPlace(rest);
+                Some(Pair {
+                    ours: child,
+                    theirs: Some(partner),
+                })
+            }
+            Partners::ByName(fields) => {
+                self.ours = ours;
+                match fields.find(child.label()) {
+                    Some((partner, rest)) => {
+                        self.theirs = Partners::ByName(rest);
+                        Some(Pair {
+                            ours: child,
+                            theirs: Some(partner),
+                        })
+                    }
+                    None => Some(Pair {
+                        ours: child,
+                        theirs: None,
+                    }),
+                }
+            }
+        }
+    }
+}
