@@ -9,11 +9,11 @@ use Rattle.std.specs.Prelude.{IfSome}
 use Rattle.trees.proofs.Changes.{sound_grow, each_mono}
 use Rattle.cells.specs.Layout.{kids, before, far, label_in}
 use Rattle.cells.specs.Reading.{front, behind, roots, first_tree, first_label, complete, StandsAt}
-use Rattle.cells.specs.Views.{tree, label, forest, Cuts, TrailsIn, IsAmong, IsChildOf, IsFoundBy}
+use Rattle.cells.specs.Views.{tree, label, forest, IsFirst, FirstAndRest, Cuts, TrailsIn, IsAmong, IsChildOf, IsFoundBy}
 use Rattle.cells.specs.declared.types.Cell.{Cell}
 use Rattle.cells.specs.declared.views.Node.{Node}
 use Rattle.cells.specs.declared.views.Kids.{Kids}
-use Rattle.cells.proofs.Readings.{none_complete, complete-less, others, stands_lies, sizes-add, front-behind}
+use Rattle.cells.proofs.Readings.{none_complete, complete-less, others, stands_lies, counted, sizes-add, front-behind}
 use Rattle.cells.proofs.Paths.{find_step, far_step, label_step}
 use Rattle.cells.proofs.Sounds.{sound_height}
 
@@ -66,6 +66,18 @@ first_whole (suc n) (c ∷ cs) p r =
       sane = (and_parts (sound 16 (first_tree (roots (c ∷ cs)))) (each (sound 16) (front n (behind c.children (roots cs)))) r.sane).0;
     }
 
+pub rows : (k : Kids) → Rows k.count k.cells.now
+rows k = record { whole = k.whole; sane = k.sane }
+
+first_of : (n : ℕ) (cs : List Cell) → 0 < n → Rows n cs → front n (roots cs) ≡ more (first_label (roots cs)) (first_tree (roots cs)) (behind 1 (front n (roots cs)))
+first_of zero cs p r = absurd (omega arith)
+first_of (suc n) [] p r = none_complete n r.whole
+first_of (suc n) (c ∷ cs) p r = refl
+
+-- a row that is not empty, by the tree at the front of its cells
+pub first_read : (row : Kids) → 0 < row.count → forest row ≡ more (first_label (roots row.cells.now)) (first_tree (roots row.cells.now)) (behind 1 (forest row))
+first_read row p = first_of row.count row.cells.now p (rows row)
+
 pub splits : (n k : ℕ) (cs rest : List Cell) → 0 < n → Rows n cs → k ≡ size (first_tree (roots cs)) → rest ≡ drop k cs → Splits n cs rest
 splits zero k cs rest p r e q = absurd (omega arith)
 splits (suc n) k [] rest p r e q = none_complete n r.whole
@@ -85,6 +97,18 @@ splits (suc n) k (c ∷ cs) rest p r e q =
       is = rw y (ap (λ f. more c.label t (front n f)) b);
       behind = rw w (sym v);
     }
+
+-- a row that has a first is not empty
+pub first_some : (row : Kids) (child : Node) → IsFirst row child → 0 < row.count
+first_some row child f = omega (arith, counted row.count row.cells.now row.whole, ap count f.split)
+
+-- what is read at the front of its cells is the first
+pub read_first : (row : Kids) (child : Node) {g : Forest} → IsFirst row child → forest row ≡ more (first_label (roots row.cells.now)) (first_tree (roots row.cells.now)) g → forest row ≡ more (label child) (tree child) g
+read_first row child {g} f e = e ∙ ap (λ cs. more (first_label (roots cs)) (first_tree (roots cs)) g) (sym f.cells)
+
+-- the row is its first, and those behind it
+pub first_and_rest : (row rest : Kids) (child : Node) → IsFirst row child → forest rest ≡ behind 1 (forest row) → FirstAndRest row (child, rest)
+first_and_rest row rest child f e = f.split ∙ ap (more (label child) (tree child)) (sym e)
 
 -- the first tree lies within the cells
 pub first_within : (cs : List Cell) → complete 1 cs ≡ true → size (first_tree (roots cs)) ≤ length cs
@@ -124,6 +148,18 @@ trails_on row rest last t u =
 pub record Reaches (top : Kids) (k : ℕ) (row : Kids) : Type 0 where
   pub rows : forest row ≡ behind k (forest top)
   pub place : row.cells.now ≡ drop (before k (forest top)) top.cells.now
+
+count_behind : (k : ℕ) (f : Forest) → k < count f → 0 < count (behind k f)
+count_behind zero f h = h
+count_behind (suc k) empty h = absurd (omega arith)
+count_behind (suc k) (more l t f) h = count_behind k f (omega arith)
+
+-- within the row, some are left
+pub some_left : (top row : Kids) (k : ℕ) → Reaches top k row → k < top.count → 0 < row.count
+some_left top row k r h =
+    let n = counted top.count top.cells.now top.whole in
+    let m = counted row.count row.cells.now row.whole in
+    omega (arith, count_behind k (forest top) (omega arith), ap count r.rows)
 
 before_none : (f : Forest) → before 0 f ≡ 0
 before_none empty = refl
@@ -172,15 +208,16 @@ module _ (top row : Kids) (k : ℕ) (p : Node × Kids) (r : Reaches top k row) (
             ∙ ap (λ n. drop n top.cells.now) (sym z);
       })
 
-  pub reached_child : at k (forest top) ≡ Some (tree p.0)
-  reached_child = at_behind (label p.0) (tree p.0) (forest p.1) k (forest top) (sym r.rows ∙ e)
+-- the first of the row alone
+module _ (top row : Kids) (k : ℕ) (r : Reaches top k row) (h : k < top.count) where
+  some_first : behind k (forest top) ≡ more (first_label (roots row.cells.now)) (first_tree (roots row.cells.now)) (behind 1 (forest row))
+  some_first = sym r.rows ∙ first_read row (some_left top row k r h)
 
-  pub reached : IsAmong top k p.0
-  reached =
-      record {
-        name = sym (label_behind (label p.0) (tree p.0) (forest p.1) k (forest top) (sym r.rows ∙ e));
-        place = c.first ∙ r.place;
-      }
+  pub reached_child : at k (forest top) ≡ Some (first_tree (roots row.cells.now))
+  reached_child = at_behind (first_label (roots row.cells.now)) (first_tree (roots row.cells.now)) (behind 1 (forest row)) k (forest top) some_first
+
+  pub reached_name : first_label (roots row.cells.now) ≡ label_at k (forest top)
+  reached_name = sym (label_behind (first_label (roots row.cells.now)) (first_tree (roots row.cells.now)) (behind 1 (forest row)) k (forest top) some_first)
 
 -- a node's child, from its row
 pub child_of_row : (parent : Node) (row : Kids) (i : ℕ) (child : Node) → forest row ≡ kids (tree parent) → row.cells.now ≡ drop 1 parent.cells.now → IsAmong row i child → IsChildOf parent i child

@@ -4,7 +4,7 @@ use Rattle.trees.specs.Name.{Name}
 use Rattle.trees.specs.Tree.{Tree, Forest, empty, more, size, sizes}
 use Rattle.trees.specs.Place.{label_at}
 use Rattle.cells.specs.Layout.{kids, before, far, label_in}
-use Rattle.cells.specs.Reading.{roots, first_tree, first_label, front}
+use Rattle.cells.specs.Reading.{roots, first_tree, first_label, front, behind}
 use Rattle.cells.specs.declared.views.Node.{Node}
 use Rattle.cells.specs.declared.views.Kids.{Kids}
 
@@ -27,6 +27,11 @@ entries (more l t f) = (l, t) ∷ entries f
 -- a tree with its name, as they are in the list
 abbrev pub labelled : Node → Name × Tree
 labelled n = (label n, tree n)
+
+-- the child is the row's first, and begins where the row does
+pub record IsFirst (row : Kids) (child : Node) : Type 0 where
+  pub cells : child.cells.now ≡ row.cells.now
+  pub split : forest row ≡ more (label child) (tree child) (behind 1 (forest row))
 
 -- the row is the child and the rest of it
 abbrev pub FirstAndRest : Kids → Node × Kids → Type 0

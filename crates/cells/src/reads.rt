@@ -1,11 +1,14 @@
-//! Where trees end in cells and how high they are. Measuring recurses over plain cells, the levels falling, as
-//! releasing does: one function for the three would hide that two read and one writes.
-ghost use Rattle.std.specs.Prelude.{◌≡◌, ◌+◌, ◌≤◌};
-ghost use Rattle.trees.specs.Tree.{size, height, count as number_of};
-ghost use Rattle.cells.specs.Layout.{kids, before};
+//! Where trees end in cells, how high they are, and where paths and names lead. Measuring recurses over plain
+//! cells, the levels falling, as releasing does: one function for the three would hide that two read and one writes.
+ghost use Rattle.std.specs.Prelude.{◌≡◌, ◌+◌, ◌≤◌, Some, None, MatchOption};
+ghost use Rattle.trees.specs.Tree.{Tree, size, height, count as number_of};
+ghost use Rattle.trees.specs.Place.{find as led_to, position_from};
+ghost use Rattle.cells.specs.Layout.{Lies, kids, before, far};
 ghost use Rattle.cells.specs.Reading.{tree_at, StandsAt};
 
+use crate::rows::Row;
 use crate::types::{Cell, LEVELS};
+use names::Name;
 
 /// The position behind the tree at `at`.
 pub fn end_of(cells: &[Cell], at: usize, levels: usize) -> usize
@@ -45,4 +48,31 @@ pub fn child_at(cells: &[Cell], at: usize, i: usize) -> usize
         pos = end_of(cells, pos, LEVELS);
     }
     pos
+}
+
+/// The position of the node to which a path leads from the root at `at`.
+pub fn find(cells: &[Cell], at: usize, path: &[u16]) -> Option<usize>
+    requires { (t : Tree) × Lies cells.now at t × (height t ≤ 16) }
+    ensures { (t : Tree) → Lies cells.now at t →
+        MatchOption result (led_to (Some t) path.now ≡ None)
+        (λ pos. ((u : Tree) × (led_to (Some t) path.now ≡ Some u)) × (pos ≡ at + far (Some t) path.now)) }
+{
+    let mut pos = at;
+    for step in path {
+        let i = *step as usize;
+        if i >= cells[pos].children {
+            return None;
+        }
+        pos = child_at(cells, pos, i);
+    }
+    Some(pos)
+}
+
+/// Which child of the tree at `at` has a name.
+pub fn index_of(cells: &[Cell], at: usize, name: &Name) -> Option<usize>
+    requires { (t : Tree) × Lies cells.now at t × (height t ≤ 16) }
+    ensures { (t : Tree) → Lies cells.now at t → result ≡ position_from 0 name.now (kids t) }
+{
+    let kid = Row::of(cells, at).under(cells, name)?;
+    Some(kid.index)
 }

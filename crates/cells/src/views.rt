@@ -4,7 +4,7 @@ ghost use Rattle.std.specs.Iterator.{YieldsFirstBy, item_count};
 ghost use Rattle.trees.specs.Tree.{size, height, count as number_of, at as child_of, each, sound, IsSound, empty, more};
 ghost use Rattle.trees.specs.Place.{find as led_to, position_from};
 ghost use Rattle.cells.specs.Layout.{kids, root};
-ghost use Rattle.cells.specs.Reading.{roots, first_tree, front, complete, tree_at, StandsAt};
+ghost use Rattle.cells.specs.Reading.{roots, first_tree, front, behind, complete, tree_at, StandsAt};
 
 use crate::reads::{end_of, height_of};
 use crate::types::{Cell, LEVELS};
@@ -110,18 +110,18 @@ impl<'a> Node<'a> {
         // By `enumerate` the loop would owe, where it begins, that the count stays below 2 to the 64: tried, left open.
         let mut row = self.children();
         for i in 0..row.len() {
-            let (child, rest) = row.split_first()?;
+            let child = row.first()?;
             if *name == *child.label() {
                 return Some(i);
             }
-            row = rest;
+            row = row.rest();
         }
         None
     }
 }
 
 impl<'a> Kids<'a> {
-    ghost use Rattle.cells.specs.Views.{tree, label, forest, FirstAndRest, Cuts, TrailsIn, IsAmong};
+    ghost use Rattle.cells.specs.Views.{tree, label, forest, IsFirst, FirstAndRest, Cuts, TrailsIn, IsAmong};
 
     /// How many there are.
     pub fn len(self) -> usize
@@ -131,22 +131,41 @@ impl<'a> Kids<'a> {
         count
     }
 
+    /// The first. Where it ends is not looked for.
+    pub fn first(self) -> Option<Node<'a>>
+        ensures { MatchOption result (forest self.entry ≡ empty) (IsFirst self.entry) }
+    {
+        if self.count == 0 {
+            return None;
+        }
+        Some(Node { cells: self.cells })
+    }
+
     /// The first, and those behind it.
     pub fn split_first(self) -> Option<(Node<'a>, Kids<'a>)>
         ensures split { MatchOption result (forest self.entry ≡ empty) (FirstAndRest self.entry) }
         ensures cut { IfSome result (Cuts self.entry) }
         ensures behind { IfSome result (λ p. TrailsIn self.entry p.1) }
     {
-        if self.count == 0 {
-            return None;
-        }
+        let child = self.first()?;
         let cells = self.cells;
         let (_, rest) = cells.split_at(end_of(cells, 0, LEVELS));
         let others = Kids {
             cells: rest,
             count: self.count - 1,
         };
-        Some((Node { cells }, others))
+        Some((child, others))
+    }
+
+    /// Those behind the first, if there is one.
+    pub fn rest(self) -> Kids<'a>
+        ensures forest { forest result ≡ behind 1 (forest self.entry) }
+        ensures behind { TrailsIn self.entry result }
+    {
+        match self.split_first() {
+            Some((_, rest)) => rest,
+            None => self,
+        }
     }
 
     /// The one at a position, if there are as many.
@@ -154,14 +173,17 @@ impl<'a> Kids<'a> {
         ensures child { option_map tree result ≡ child_of i (forest self.entry) }
         ensures place { IfSome result (IsAmong self.entry i) }
     {
-        // `nth` gives the child, and not where its cells lie, which `IsAmong` says.
+        if i >= self.count {
+            return None;
+        }
+        // `nth` gives the child, and not where its cells lie, which `IsAmong` says. It also looks
+        // for the child's end.
         let mut row = self;
         for _ in 0..i {
             let (_, rest) = row.split_first()?;
             row = rest;
         }
-        let (child, _) = row.split_first()?;
-        Some(child)
+        Some(Node { cells: row.cells })
     }
 }
 

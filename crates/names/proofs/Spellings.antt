@@ -4,7 +4,7 @@ use Rattle.std.proofs.lemmas.List.{drop-replicate, length-replicate}
 use Rattle.std.proofs.lemmas.Grind.{common_steps}
 use Rattle.std.proofs.lemmas.Bool.{and_parts, leb-true, le-leb, false≢true}
 use Rattle.std.specs.Prelude.{position, ◌==◌, nat_le}
-use Rattle.names.specs.Names.{printable, named, before_zero, padded, HoldsText}
+use Rattle.names.specs.Names.{printable, good_name, named, before_zero, padded, tidy_name, HoldsText}
 
 -- a row of zeros with a text written to its front
 pub written : (xs : List ℕ) → xs ++ drop (length xs) (replicate 32 0) ≡ padded xs
@@ -33,6 +33,11 @@ some : (xs : List ℕ) → false ≡ length xs == 0 → 0 < length xs
 some [] e = absurd (false≢true e)
 some (x ∷ xs) e = omega arith
 
+-- good names are tidy
+pub good_tidy : (n : List ℕ) → good_name n ≡ true → tidy_name n ≡ true
+good_tidy [] e = refl
+good_tidy (x ∷ xs) e = e
+
 -- a row of zeros with a name written to its front holds the name
 pub record Filled (xs bs : List ℕ) : Type 0 where
   pub holds : HoldsText bs
@@ -43,7 +48,12 @@ filled xs ys e z b p =
     let a : 0 < length xs = some xs z in
     let w : ys ++ drop (length xs) (replicate 32 0) ≡ padded xs = ap (λ zs. zs ++ drop (length xs) (replicate 32 0)) e ∙ written xs in
     let back : before_zero (ys ++ drop (length xs) (replicate 32 0)) ≡ xs = ap before_zero w ∙ printed_back xs (32 - length xs) p in
+    let g : good_name xs ≡ true = rw (le-leb 1 (length xs) a, le-leb (length xs) 32 b, p) refl in
     record {
-      holds = (w ∙ ap padded (sym back), omega (arith, ap length w, length-append xs (replicate (32 - length xs) 0), length-replicate {A = ℕ} (32 - length xs) 0));
+      holds = (
+        w ∙ ap padded (sym back),
+        omega (arith, ap length w, length-append xs (replicate (32 - length xs) 0), length-replicate {A = ℕ} (32 - length xs) 0),
+        ap tidy_name back ∙ good_tidy xs g,
+      );
       named = ap Some back ∙ sym (rw (le-leb 1 (length xs) a, le-leb (length xs) 32 b, p));
     }

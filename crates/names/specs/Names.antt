@@ -1,5 +1,5 @@
 -- Names by their bytes, and how they lie in 32 places.
-use Rattle.std.specs.Prelude.{◌≡◌, ℕ, ◌-◌, Bool, if◌then◌else◌, ◌&&◌, List, [], ◌∷◌, ◌++◌, length, replicate, Some, None, Option, ◌==◌, nat_eq, nat_le}
+use Rattle.std.specs.Prelude.{◌≡◌, ℕ, ◌-◌, Bool, true, if◌then◌else◌, ◌&&◌, List, [], ◌∷◌, ◌++◌, length, replicate, Some, None, Option, ◌==◌, nat_eq, nat_le}
 use Rattle.std.specs.List.{list_all}
 use Rattle.std.specs.Cmp.Lexicographic.{pointwise}
 
@@ -28,6 +28,13 @@ abbrev pub before_zero : List ℕ → List ℕ
 before_zero [] = []
 before_zero (x ∷ xs) = if x == 0 then [] else x ∷ before_zero xs
 
--- the places hold a text and zeros behind it
+-- a good name, or the empty one
+abbrev pub tidy_name : List ℕ → Bool
+tidy_name [] = true
+tidy_name (x ∷ xs) = good_name (x ∷ xs)
+
+-- the 32 places hold a text and zeros behind it: a good name, or the empty one
 abbrev pub HoldsText : List ℕ → Type 0
-HoldsText bytes = (bytes ≡ padded (before_zero bytes)) × (length bytes ≡ 32)
+HoldsText bytes =
+    (bytes ≡ padded (before_zero bytes)) × (length bytes ≡ 32)
+    × (tidy_name (before_zero bytes) ≡ true)

@@ -1,16 +1,16 @@
 -- Two nodes that meet in the cells: the walk ends there, goes on, or opens the target's node.
-use Rattle.std.proofs.Common.{◌≡◌, ℕ, suc, ◌+◌, ◌-◌, ◌<◌, ◌≤◌, true, cond, List, [], ◌∷◌, ◌++◌, length, drop, get_or, set, IfOk, MatchResult, Ok, Err, Result, sym, refl, ap, ◌∙◌, subst, ap₂, append_assoc, arith, length-append, length-set, drop_at}
+use Rattle.std.proofs.Common.{◌≡◌, ℕ, suc, ◌+◌, ◌-◌, ◌<◌, ◌≤◌, true, cond, List, [], ◌∷◌, ◌++◌, length, get_or, set, IfOk, MatchResult, Ok, Err, Result, sym, refl, ap, ◌∙◌, subst, ap₂, append_assoc, arith, length-append, length-set}
 use Rattle.std.proofs.lemmas.List.{append-nil}
 use Rattle.std.proofs.lemmas.Bool.{and_parts, and_from, le-leb, lt-leb}
 use Rattle.rules.specs.declared.leaf.Leaf.{Leaf}
 use Rattle.trees.specs.Name.{Name, distinct, all_empty}
 use Rattle.trees.specs.declared.head.Head.TheVariants.{Leaf as leaf, List as list}
-use Rattle.trees.specs.Tree.{Tree, node, count, size, sizes, height, labels, fits, each, sound, same_kind}
+use Rattle.trees.specs.Tree.{Tree, node, count, size, sizes, labels, fits, each, sound, same_kind}
 use Rattle.trees.specs.Apply.{Walked, ended, done, stopped, stop, switch, no_room, within_node, apply_nodes, apply_within}
 use Rattle.cells.specs.declared.types.Cell.{Cell}
 use Rattle.trees.specs.declared.head.Head.TheVariants as value
 use Rattle.cells.specs.Layout.{encode, encodes, cell_of, Lies, LieAll}
-use Rattle.cells.proofs.Layouts.{lies, lies_kids, count_size, before_first}
+use Rattle.cells.proofs.Layouts.{lies_kids, count_size, before_first}
 use Rattle.cells.proofs.Sounds.{sound_height}
 use Rattle.patch.specs.declared.errors.ApplyError.{ApplyError}
 use Rattle.patch.specs.declared.errors.ApplyError.TheVariants.{MismatchedKinds}
@@ -27,12 +27,14 @@ use Rattle.patch.specs.declared.frames.Ends.{Ends}
 use Rattle.patch.specs.declared.frames.Step.{Step}
 use Rattle.patch.specs.declared.frames.Step.TheVariants.{On, Done}
 use Rattle.patch.specs.declared.steps.Walk.{Walk}
-use Rattle.patch.specs.Walk.{Task, Meets, IsAtStep, IsEnded, frames_of, weight, ahead, resume, label, pre, post, Holds, Meeting_of, Finished, Within, way, fault_of, Stopped, IsLaid, Laid_at, Past}
+use Rattle.patch.specs.Walk.{Task, Meets, IsAtStep, IsEnded, frames_of, weight, ahead, resume, label, pre, post, Holds, Meeting_of, Finished, Within, way, fault_of, Stopped, Laid_at, Past}
 use Rattle.patch.proofs.Bounds.{sane_fits, sane_each}
 use Rattle.patch.proofs.Mannered.{leaf_stops, leaf_takes, NoLeaf, kinds_stop, by_manner, mannered, pairs_apart, pairs_listed}
 use Rattle.patch.proofs.Ranks.{met_falls}
 use Rattle.patch.proofs.Spots.{spot_read, spot_patch_read}
-use Rattle.patch.proofs.Zippers.{lies_beyond, stops, set_focus, held_length}
+use Rattle.patch.proofs.Zippers.{lies_beyond, focus_lies, stops, set_focus, held_length}
+use Rattle.patch.specs.Rows.{EndsAt, ends_of}
+use Rattle.patch.proofs.Ends.{tree_to}
 
 module _ (base : List Cell) (l : Name) (frames : List Frame) (at : Meeting) (used : ℕ) (cells : List Cell) (a : Walked Tree) (s : Meeting_of base l frames at used cells a) where
   abbrev before : List Cell
@@ -225,40 +227,27 @@ meets_by base l at used cells a e g = subst (λ (x : List Frame). Meeting_of bas
 pub finished_in : (base : List Cell) (l : Name) {frames others : List Frame} (used : ℕ) (cells : List Cell) (a : Walked Tree) (e : Ends) → frames ≡ others → Finished base l others e used cells a → Finished base l frames e used cells a
 finished_in base l used cells a e x g = subst (λ (y : List Frame). Finished base l y e used cells a) (sym x) g
 
--- where two nodes lie that are laid, one on the other
-module _ (k : Task) (w : Walk) (at : Meeting) (s : IsLaid k w at) where
-  focus : w.cells.now ≡ (k.base ++ pre k.name s.os) ++ (encode (label k.name s.os) s.t ++ (post s.os ++ s.rest))
-  focus = s.holds ∙ sym (append_assoc k.base (pre k.name s.os) _)
-
-  pub laid_target : Lies w.cells.now at.target s.t × (height s.t ≤ 16)
-  laid_target = (
-    lies (label k.name s.os) (post s.os ++ s.rest)
-        (ap (drop at.target) focus ∙ drop_at (k.base ++ pre k.name s.os) (encode (label k.name s.os) s.t ++ (post s.os ++ s.rest)) at.target (length-append k.base (pre k.name s.os) ∙ sym s.place)),
-    omega (arith, sound_height (suc s.levels) s.t s.sane, s.depth),
-  )
-
-  pub laid_patch : Lies w.cells.now at.patch s.u × (height s.u ≤ 16)
-  laid_patch = (
-    subst (λ (x : List Cell). Lies x at.patch s.u) (sym s.holds) (lies_beyond (pre k.name s.os ++ (encode (label k.name s.os) s.t ++ (post s.os ++ s.rest))) s.patch),
-    omega (arith, sound_height (suc s.levels) s.u s.sounds, s.depth),
-  )
-
-  pub laid_ends : (e : Ends) → e.target ≡ at.target + size s.t → e.patch ≡ at.patch + size s.u → Finished k.base k.name (frames_of w) e w.used w.cells.now k.outcome
-  laid_ends e t p =
-      record {
-        os = s.os;
-        levels = s.levels;
-        t = s.t;
-        rest = s.rest;
-        held = s.held;
-        depth = s.depth;
-        holds = s.holds;
-        sane = s.sane;
-        end = t ∙ ap (λ n. n + size s.t) s.place;
-        past = subst (λ n. Past s.os n) (sym p) s.past;
-        used_is = s.used_is;
-        comes = s.comes;
-      }
+-- two nodes are laid, one on the other: the rows of the two alone end with them
+pub laid_ends : (base : List Cell) (l : Name) (frames : List Frame) (at : Meeting) (used : ℕ) (cells : List Cell) (a : Walked Tree) → Laid_at base l frames at used cells a → Finished base l frames (ends_of at) used cells a
+laid_ends base l frames at used cells a s =
+    let P = pre l s.os ++ (encode (label l s.os) s.t ++ (post s.os ++ s.rest)) in
+    let u : Lies cells at.patch s.u = subst (λ (x : List Cell). Lies x at.patch s.u) (sym s.holds) (lies_beyond P s.patch) in
+    record {
+      os = s.os;
+      levels = s.levels;
+      t = s.t;
+      rest = s.rest;
+      held = s.held;
+      depth = s.depth;
+      holds = s.holds;
+      sane = s.sane;
+      target = subst (λ x. EndsAt cells (ends_of at).target (x + size s.t)) s.place (tree_to 1 refl (focus_lies base l s.os s.t s.rest cells at.target s.holds s.place) (omega (arith, sound_height (suc s.levels) s.t s.sane, s.depth)));
+      end = at.patch + size s.u;
+      patch = tree_to 1 refl u (omega (arith, sound_height (suc s.levels) s.u s.sounds, s.depth));
+      past = s.past;
+      used_is = s.used_is;
+      comes = s.comes;
+    }
 
 -- a node that goes on has few children left
 going_few : (k : Task) (w : Walk) (o : Step) → IsAtStep k w o → (child : Frame) → o ≡ On child → child.next.count ≤ 65535

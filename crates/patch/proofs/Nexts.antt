@@ -1,15 +1,15 @@
 -- An open node goes on: its patch's next child meets a child of its own, is skipped or is copied, or it is done.
-use Rattle.std.proofs.Common.{◌≡◌, ℕ, zero, suc, ◌+◌, ◌-◌, ◌<◌, ◌≤◌, Bool, true, false, cond, ltb, leb, List, [], ◌∷◌, ◌++◌, length, drop, Some, None, sym, refl, ap, ◌∙◌, subst, ap₂, append_assoc, arith, add-one, length-append, drop_at}
+use Rattle.std.proofs.Common.{◌≡◌, ℕ, zero, suc, ◌+◌, ◌-◌, ◌<◌, ◌≤◌, Bool, true, false, cond, ltb, leb, List, [], ◌∷◌, ◌++◌, length, Some, None, sym, refl, ap, ◌∙◌, subst, ap₂, append_assoc, arith, add-one, length-append}
 use Rattle.std.proofs.lemmas.Bool.{and_parts, le-leb, lt-leb, ltb-true}
 use Rattle.names.specs.Names.{same_name}
 use Rattle.trees.specs.Name.{Name, all_empty, distinct}
-use Rattle.trees.specs.Tree.{Tree, node, Forest, empty, more, count, size, sizes, height, labels, each, sound}
-use Rattle.trees.specs.Place.{add_last, label_at, position_from}
+use Rattle.trees.specs.Tree.{Tree, node, Forest, count, size, sizes, height, labels, each, sound}
+use Rattle.trees.specs.Place.{add_last, label_at}
 use Rattle.trees.specs.Apply.{Walked, ended, stopped, no_room, within_node, apply_within}
 use Rattle.cells.specs.declared.types.Cell.{Cell}
 use Rattle.patch.specs.declared.frames.Row.{Row}
 use Rattle.cells.specs.Layout.{encode, cell_of, before, Lies, LieAll}
-use Rattle.cells.proofs.Layouts.{lies, Next, next, none_left, height_pos, at_there}
+use Rattle.cells.proofs.Layouts.{Next, next, none_left, height_pos, at_there}
 use Rattle.cells.proofs.Sounds.{sound_height}
 use Rattle.cells.proofs.Swaps.{among, count-add_last}
 use Rattle.patch.specs.declared.errors.ApplyError.{ApplyError}
@@ -20,22 +20,15 @@ use Rattle.patch.specs.Manners.{partner, lay_at, lay_beyond, lay_next, onto}
 use Rattle.patch.specs.declared.steps.Walk.{Walk}
 use Rattle.patch.specs.Edits.{Refused, Spot, Became, Placed}
 use Rattle.patch.specs.declared.frames.Step.TheVariants.{On}
-use Rattle.patch.specs.Rows.{From, Reaches, Comes, onward}
+use Rattle.patch.specs.Rows.{From, TreesTo, EndsAt, Comes, onward}
 use Rattle.patch.specs.Walk.{Task, IsAtStep, frames_of, Open, resume, label, pre, post, Holds, OpenNode, Fits, IsHeld, Past, Meeting_of, Laid_at, Finished, Within, fault_of, Stopped}
 use Rattle.patch.proofs.Bounds.{sane_low, sane_at, sane_last}
-use Rattle.patch.proofs.Places.{change_same, at_last, before_last, before_all, partner_place, partner_past}
+use Rattle.patch.proofs.Places.{change_same, at_last, before_last, before_all, position_found, partner_place, partner_past}
 use Rattle.patch.proofs.Spots.{spot_target, spot_patch}
-use Rattle.patch.proofs.Zippers.{lies_beyond, stops, held_length}
+use Rattle.patch.proofs.Zippers.{lies_beyond, focus_lies, stops, held_length}
+use Rattle.patch.proofs.Ends.{children_to}
 
 -- a partner is a child
-position_below : (k : ℕ) (l : Name) (f : Forest) (j : ℕ) → position_from k l f ≡ Some j → j < k + count f
-position_below k l empty j e = absurd (let z : ◌≡◌ {A = ℕ} 0 1 = cc in omega arith)
-position_below k l (more m t f) j e = go (same_name l m) (λ e. position_below (suc k) l f j e) e
-  where
-    go : (b : Bool) → (position_from (suc k) l f ≡ Some j → j < suc k + count f) → cond b (Some k) (position_from (suc k) l f) ≡ Some j → j < k + suc (count f)
-    go true ih e = let q : k ≡ j = cc in omega arith
-    go false ih e = omega (arith, ih e)
-
 pub partner_below : (m : Pairing) (l : Name) (f : Forest) (i j : ℕ) → partner m l f i ≡ Some j → j < count f
 partner_below m l f i j e = go m e
   where
@@ -44,7 +37,7 @@ partner_below m l f i j e = go m e
     placed false t e = absurd (let z : ◌≡◌ {A = ℕ} 0 1 = cc in omega arith)
 
     go : (m : Pairing) → partner m l f i ≡ Some j → j < count f
-    go ByName e = omega (arith, position_below 0 l f j e)
+    go ByName e = omega (arith, position_found 0 l f j e)
     go ByPlace e = placed (ltb i (count f)) refl e
     go Extending e = placed (ltb i (count f)) refl e
 
@@ -87,10 +80,15 @@ skips ByPlace i l p f free rest n = refl
 skips Extending i l p f free rest n = absurd (n refl)
 
 module _ (base : List Cell) (l : Name) (fr : Frame) (frs : List Frame) (used : ℕ) (cells : List Cell) (a : Walked Tree) (w : Within base l fr frs used cells a) where
+  -- where the node lies
+  pub node_lies : Lies cells fr.target (node w.h w.f)
+  node_lies = focus_lies base l w.os (node w.h w.f) w.rest cells fr.target w.holds w.opened.place
+
   -- a node whose patch has no child left is done
-  pub node_done : fr.next.count ≡ 0 → (end : ℕ) → end ≡ fr.target + size (node w.h w.f) → Finished base l frs (record { target = end; patch = fr.next.at }) used cells a
-  node_done z end r =
+  pub node_done : fr.next.count ≡ 0 → Finished base l frs (record { target = fr.row; patch = fr.next }) used cells a
+  node_done z =
       let e = none_left w.g (omega (arith, w.opened.counted)) in
+      let high : height (node w.h w.f) ≤ 16 = omega (arith, sane_low w.levels w.h w.f w.opened.sane, w.opened.depth) in
       record {
         os = w.os;
         levels = w.levels;
@@ -100,22 +98,12 @@ module _ (base : List Cell) (l : Name) (fr : Frame) (frs : List Frame) (used : �
         depth = w.opened.depth;
         holds = w.holds;
         sane = w.opened.sane;
-        end = r ∙ ap (λ n. n + size (node w.h w.f)) w.opened.place;
+        target = subst (λ x. EndsAt cells fr.row (x + size (node w.h w.f))) w.opened.place (children_to node_lies high fr.row.count w.j fr.row w.row (omega arith));
+        end = fr.next.at;
+        patch = subst (λ n. TreesTo cells fr.next.at n fr.next.at) (sym z) (omega arith);
         past = subst (λ n. Past w.os n) (omega (arith, ap sizes e)) w.opened.past;
         used_is = w.used_is;
         comes = w.comes ∙ ap (λ x. resume w.os (within_node w.h (onto (apply_within w.levels) fr.pairing fr.index w.f x (length w.rest)))) e;
-      }
-
-  -- where the node lies, and its row
-  pub node_reaches : Reaches cells fr.target (node w.h w.f) w.j fr.row
-  node_reaches =
-      let P = base ++ pre l w.os in
-      record {
-        lies =
-            lies (label l w.os) (post w.os ++ w.rest)
-            (ap (drop fr.target) (w.holds ∙ sym (append_assoc base (pre l w.os) _)) ∙ drop_at P (encode (label l w.os) (node w.h w.f) ++ (post w.os ++ w.rest)) fr.target (length-append base (pre l w.os) ∙ sym w.opened.place));
-        high = omega (arith, sane_low w.levels w.h w.f w.opened.sane, w.opened.depth);
-        begins = w.row;
       }
 
   pub stack_room : length frs ≤ 15
@@ -233,7 +221,7 @@ module _ (base : List Cell) (l : Name) (fr : Frame) (frs : List Frame) (used : �
     pushed row = record { pairing = fr.pairing; target = fr.target; row = row; next = fr.next; index = fr.index }
 
     abbrev after_child : Row → Frame
-    after_child row = onward (pushed row) (record { target = 0; patch = fr.next.at + size child.first })
+    after_child row = onward (pushed row) row (fr.next.at + size child.first)
 
     fewer : fr.next.count - 1 + 1 ≡ fr.next.count
     fewer = omega arith

@@ -1,23 +1,20 @@
 -- A target with a focus: a node around it filled, a fault that goes up, and what lies in the focus.
-use Rattle.std.proofs.Common.{◌≡◌, ℕ, suc, ◌+◌, ◌<◌, ◌≤◌, true, List, [], ◌∷◌, ◌++◌, length, drop, set, sym, refl, ap, ◌∙◌, subst, ap₂, append_assoc, arith, length-append}
+use Rattle.std.proofs.Common.{◌≡◌, ℕ, suc, ◌+◌, ◌≤◌, List, [], ◌∷◌, ◌++◌, length, drop, set, sym, refl, ap, ◌∙◌, ap₂, append_assoc, arith, length-append, drop_at}
 use lib.Seq.{set_at, drop-append-le}
-use Rattle.trees.specs.Name.{Name, distinct}
+use Rattle.trees.specs.Name.{Name}
 use Rattle.std.proofs.lemmas.List.{append-nil}
-use Rattle.trees.specs.Tree.{Tree, node, count, size, sizes, sound}
+use Rattle.trees.specs.Tree.{Tree, node, count}
 use Rattle.trees.specs.Place.{change_at}
-use Rattle.trees.specs.Apply.{Walked, Fault, ended, done, stopped, below, field_then, within_node, apply_within}
+use Rattle.trees.specs.Apply.{Walked, Fault, ended, stopped, below, field_then, within_node, apply_within}
 use Rattle.cells.specs.declared.types.Cell.{Cell}
-use Rattle.cells.specs.Layout.{encode, cell_of, Lies, LieAll}
+use Rattle.cells.specs.Layout.{encode, Lies}
 use Rattle.cells.proofs.Changes.{count_change}
+use Rattle.cells.proofs.Layouts.{lies}
 use Rattle.patch.specs.declared.errors.ApplyError.{ApplyError}
 use Rattle.patch.specs.declared.errors.ApplyError.TheVariants.{MismatchedKinds, MismatchedTypes, Room}
 use Rattle.patch.specs.declared.frames.Frame.{Frame}
 use Rattle.patch.specs.Manners.{onto}
-use Rattle.patch.specs.declared.frames.Ends.{Ends}
-use Rattle.patch.specs.Rows.{onward}
-use Rattle.patch.specs.Walk.{Open, after, resume, label, pre, post, Holds, Past, Fits, IsHeld, Finished, Within, way, fault_of, Stopped}
-use Rattle.patch.proofs.Bounds.{sane_change}
-use Rattle.patch.proofs.Places.{labels_change, before_next, from_below}
+use Rattle.patch.specs.Walk.{Open, after, resume, label, pre, post, Holds, Fits, IsHeld, way, fault_of, Stopped}
 
 -- what lies in the front lies in the whole
 pub drop_beyond : {base : List Cell} {at : ℕ} {u : Tree} (rest : List Cell) (a : Lies base at u) → drop at (base ++ rest) ≡ encode a.label u ++ (a.rest ++ rest)
@@ -86,63 +83,12 @@ stops base l frames os r e used rest cells a q h x fr holds us c frames' w n =
       ending_is = ap (λ (y : Walked Tree). y.ending) c ∙ d.2 ∙ ap (λ y. stopped (fault_of e y)) (sym w);
     }
 
--- a tree in the focus is done: the node around it goes on, with the rows behind the tree
-pub goes_up : (base : List Cell) (l : Name) (fr : Frame) (frs : List Frame) (os : List Open) (t : Tree) (levels used : ℕ) (rest cells : List Cell) (a : Walked Tree) → IsHeld base l (fr ∷ frs) os → levels + suc (length os) ≡ 16 → sound (suc levels) t ≡ true → Holds base l os t rest cells → used + length rest ≡ length cells → a ≡ resume os (ended t (length rest) done)
-    → (e : Ends) → e.target ≡ length base + length (pre l os) + size t → Past os e.patch → Within base l (onward fr e) frs used cells a
-goes_up base l fr frs [] t levels used rest cells a h d s holds us c e end past = absurd h
-goes_up base l fr frs (o ∷ os) t levels used rest cells a h d s holds us c e end past =
-    let k = h.0 in
-    let b = k.as_node in
-    let f = change_at o.j (λ _. t) o.children in
-    let n : suc levels ≡ o.levels = omega (arith, b.depth) in
-    let below = from_below k.row k.here in
-    let i : suc o.i ≡ fr.index + 1 = omega (arith, k.index_is) in
-    record {
-      os = os;
-      levels = o.levels;
-      h = o.head;
-      f = f;
-      g = o.others;
-      j = suc o.j;
-      rest = rest;
-      held = h.1;
-      opened = record {
-        place = b.place;
-        depth = b.depth;
-        patch = subst (λ m. LieAll base m o.others) (sym past) b.patch;
-        counted = b.counted;
-        small = b.small;
-        few = b.few;
-        sane = sane_change o.levels o.head o.children b.sane o.j t (ap (λ m. sound m t) (sym n) ∙ s);
-        sounds = b.sounds;
-        apart = λ e. ap distinct (labels_change o.j t o.children) ∙ b.apart e;
-        listed = b.listed;
-        past = subst (λ m. Past os (m + sizes o.others)) (sym past) b.past;
-      };
-      row = record {
-        at_is = omega (arith, end, length-append (pre l os) (cell_of (label l os) (node o.head o.children) ∷ o.front), b.place, k.far, before_next o.j t o.children below);
-        count_is = omega (arith, k.here, k.row.count_is, count_change (λ _. t) o.children o.j);
-      };
-      even = λ e. omega (arith, k.even e, count_change (λ _. t) o.children o.j);
-      holds = holds ∙ ap (λ x. base ++ x) (ap (λ x. pre l (o ∷ os) ++ (encode (label l (o ∷ os)) t ++ x)) (append_assoc o.back (post os) rest) ∙ sym (filled base l os fr o t (post os ++ rest) k));
-      used_is = us;
-      comes = c ∙ ap₂ (λ m i. resume os (within_node o.head (onto (apply_within o.levels) m i f o.others (length rest)))) (sym k.pairing_is) i;
-    }
-
--- the same, of a walk
-module _ (base : List Cell) (l : Name) {frames : List Frame} (fr : Frame) (frs : List Frame) (used : ℕ) (cells : List Cell) (a : Walked Tree) (e : frames ≡ fr ∷ frs) (ends : Ends) (d : Finished base l frames ends used cells a) where
-  around : IsHeld base l (fr ∷ frs) d.os
-  around = subst (λ (x : List Frame). IsHeld base l x d.os) e d.held
-
-  pub some_left : (0 < fr.row.count) × (0 < fr.next.count) × (fr.index + fr.next.count ≤ 65535)
-  some_left = go d.os around
-    where
-      go : (os : List Open) → IsHeld base l (fr ∷ frs) os → (0 < fr.row.count) × (0 < fr.next.count) × (fr.index + fr.next.count ≤ 65535)
-      go [] h = absurd h
-      go (o ∷ os) h = (h.0.here, h.0.some, omega (arith, h.0.some, h.0.as_node.small, h.0.as_node.few))
-
-  pub resumed : Within base l (onward fr ends) frs used cells a
-  resumed = goes_up base l fr frs d.os d.t d.levels used d.rest cells a around d.depth d.sane d.holds d.used_is d.comes ends d.end d.past
+-- where the tree in the focus lies
+pub focus_lies : (base : List Cell) (l : Name) (os : List Open) (t : Tree) (rest cells : List Cell) (at : ℕ) → Holds base l os t rest cells → at ≡ length base + length (pre l os) → Lies cells at t
+focus_lies base l os t rest cells at holds place =
+    let P = base ++ pre l os in
+    lies (label l os) (post os ++ rest)
+    (ap (drop at) (holds ∙ sym (append_assoc base (pre l os) _)) ∙ drop_at P (encode (label l os) t ++ (post os ++ rest)) at (length-append base (pre l os) ∙ sym place))
 
 -- the cell where the focus begins is written
 pub set_focus : (base P K X cells : List Cell) (c d : Cell) (at : ℕ) → cells ≡ base ++ (P ++ ((c ∷ K) ++ X)) → at ≡ length base + length P → set cells at d ≡ base ++ (P ++ ((d ∷ K) ++ X))

@@ -21,7 +21,7 @@ use Rattle.patch.specs.declared.frames.Step.{Step}
 use Rattle.patch.specs.declared.frames.Step.TheVariants.{On, Done}
 use Rattle.patch.specs.declared.steps.Walk.{Walk}
 use Rattle.patch.specs.Manners.{onto}
-use Rattle.patch.specs.Rows.{From, Comes, Alone, onward}
+use Rattle.patch.specs.Rows.{From, EndsAt, Comes, Alone, onward}
 
 -- a target node that is open at its child j, on which the patch's child i is laid; the patch's
 -- other children come after that
@@ -95,7 +95,7 @@ pub record OpenNode (base : List Cell) (l : Name) (os : List Open) (fr : Frame) 
 pub record Fits (base : List Cell) (l : Name) (os : List Open) (fr : Frame)
     (o : Open) : Type 0 where
   pub as_node : OpenNode base l os
-      (onward fr (record { target = 0; patch = o.end })) o.head o.children o.others o.levels
+      (onward fr fr.row o.end) o.head o.children o.others o.levels
   pub index_is : fr.index ≡ o.i
   pub pairing_is : fr.pairing ≡ o.pairing
   pub splits : (t : Tree) → encodes (change_at o.j (λ _. t) o.children) ≡ o.front ++
@@ -154,7 +154,7 @@ pub record Laid_at (base : List Cell) (l : Name) (frames : List Frame) (at : Mee
   pub used_is : used + length rest ≡ length cells
   pub comes : a ≡ resume os (ended t (length rest) done)
 
--- the same, where the two nodes end there
+-- the same, where the two rows end with the two nodes
 pub record Finished (base : List Cell) (l : Name) (frames : List Frame) (ends : Ends) (used : ℕ)
     (cells : List Cell) (a : Walked Tree) : Type 0 where
   pub os : List Open
@@ -165,8 +165,10 @@ pub record Finished (base : List Cell) (l : Name) (frames : List Frame) (ends : 
   pub depth : levels + suc (length os) ≡ 16
   pub holds : Holds base l os t rest cells
   pub sane : sound (suc levels) t ≡ true
-  pub end : ends.target ≡ length base + length (pre l os) + size t
-  pub past : Past os ends.patch
+  pub target : EndsAt cells ends.target (length base + length (pre l os) + size t)
+  pub end : ℕ
+  pub patch : EndsAt cells ends.patch end
+  pub past : Past os end
   pub used_is : used + length rest ≡ length cells
   pub comes : a ≡ resume os (ended t (length rest) done)
 
@@ -247,6 +249,11 @@ IsLaidOrOpen k w at (Some fr) = Within k.base k.name fr (frames_of w) w.used w.c
 -- a node goes on, or is done, as the task wants it
 abbrev pub IsAtStep : Task → Walk → Step → Type 0
 IsAtStep k w o = Going k.base k.name o (frames_of w) w.used w.cells.now k.outcome
+
+-- the node of the frame, which was taken off the stack, has a child that is done, as the task wants it
+abbrev pub HasLaid : Task → Walk → Frame → Ends → Type 0
+HasLaid k w fr ends =
+    Finished k.base k.name (fr ∷ frames_of w) ends w.used w.cells.now k.outcome
 
 -- a list goes on with a patch child that has no partner
 pub record Grows (k : Task) (w : Walk) (fr : Frame) : Type 0 where

@@ -1,9 +1,8 @@
 //! Rows of children, and the place that a patch child takes among the target's.
-ghost use Rattle.std.specs.Prelude.{◌≡◌, ℕ, ◌+◌, ◌<◌, ◌≤◌, None, MatchOption};
-ghost use Rattle.trees.specs.Place.{position_from};
+ghost use Rattle.std.specs.Prelude.{◌≡◌, ℕ, suc, ◌+◌, ◌<◌, ◌≤◌, ◌⊎◌, MatchOption};
 ghost use Rattle.trees.specs.Tree.{Tree, size, height};
 ghost use Rattle.cells.specs.Layout.{Lies, kids};
-ghost use Rattle.patch.specs.Rows.{Reaches, Comes, Beside, Alone, Under};
+ghost use Rattle.patch.specs.Rows.{From, EndsAt, LaidChild, Comes, Beside, Alone, Under, Lacks};
 
 use crate::frames::{Frame, Row};
 use crate::manners::Pairing;
@@ -38,11 +37,10 @@ impl<'a> Walk<'a> {
         }
     }
 
-    /// Where a row ends that goes to the end of its node.
+    /// Where a row ends.
     pub fn end_of_row(&self, row: Row) -> usize
-        requires { (at : ℕ) × (t : Tree) × (j : ℕ) × Reaches self.now.cells.now at t j row }
-        ensures { (at : ℕ) (t : Tree) (j : ℕ) → Reaches self.now.cells.now at t j row →
-            result ≡ at + size t }
+        requires { (end : ℕ) × EndsAt self.now.cells.now row end }
+        ensures { (end : ℕ) → EndsAt self.now.cells.now row end → result ≡ end }
     {
         let mut rest = row;
         while rest.count > 0 {
@@ -51,19 +49,39 @@ impl<'a> Walk<'a> {
         rest.at
     }
 
-    /// The children of the node at `target` from the one under a name on. One loop, so a `return`
-    /// says what a label would.
-    fn under(&self, target: usize, name: &Name) -> Option<Row>
+    /// What is left of a row behind so many of its cells, nothing if it has no more.
+    fn behind_cells(&self, row: Row, many: usize) -> Row
+        requires { (end : ℕ) × EndsAt self.now.cells.now row end }
+        ensures ends { (end : ℕ) → EndsAt self.now.cells.now row end →
+            EndsAt self.now.cells.now result end }
+        ensures most { result.at ≤ row.at + many }
+        ensures all { 0 < result.count → result.at ≡ row.at + many }
+    {
+        let mut rest = row;
+        for _ in 0..many {
+            if rest.count == 0 {
+                return rest;
+            }
+            rest = Row {
+                at: rest.at + 1,
+                count: rest.count - 1 + self.cells[rest.at].children,
+            };
+        }
+        rest
+    }
+
+    /// The children of the node at `target` from the one under a name on; so many of the last are not
+    /// tried. One loop, so a `return` says what a label would.
+    fn under(&self, target: usize, name: &Name, last: usize) -> Option<Row>
         requires { (t : Tree) × Lies self.now.cells.now target t × (height t ≤ 16) }
         ensures { (t : Tree) → Lies self.now.cells.now target t →
-            MatchOption result (position_from 0 name.now (kids t) ≡ None)
-            (Under target name.now (kids t)) }
+            MatchOption result (Lacks name.now (kids t) last) (Under target name.now (kids t)) }
     {
         let mut row = Row {
             at: target + 1,
             count: self.cells[target].children,
         };
-        while row.count > 0 {
+        while row.count > last {
             let label = self.cells[row.at].label;
             if *name == label {
                 return Some(row);
@@ -71,6 +89,34 @@ impl<'a> Walk<'a> {
             row = self.without_first(row);
         }
         None
+    }
+
+    /// The target's children behind the one that was laid, of which `rest` is still to be passed.
+    pub fn row_behind(&self, frame: Frame, rest: Row) -> Row
+        requires { (t : Tree) × LaidChild self.now.cells.now frame t rest }
+        ensures { (t : Tree) → (p : LaidChild self.now.cells.now frame t rest) →
+            From frame.target (kids t) (suc p.j) result }
+    {
+        Row {
+            at: self.end_of_row(rest),
+            count: frame.row.count - 1,
+        }
+    }
+
+    /// The same by name, where the patch's next child has that name. If more cells are still to be
+    /// passed than lie before the child that was laid, the children before it are tried first.
+    pub fn row_by_name(&self, frame: Frame, rest: Row, name: &Name) -> Row
+        requires { (t : Tree) × LaidChild self.now.cells.now frame t rest }
+        ensures { (t : Tree) → (p : LaidChild self.now.cells.now frame t rest) →
+            From frame.target (kids t) (suc p.j) result ⊎ Under frame.target name.now (kids t) result }
+    {
+        let rest = self.behind_cells(rest, frame.row.at - frame.target);
+        if rest.count > 0 {
+            if let Some(row) = self.under(frame.target, name, frame.row.count) {
+                return row;
+            }
+        }
+        self.row_behind(frame, rest)
     }
 
     /// The target's children from the one on, on which the patch's next child is laid. By name, the
@@ -91,7 +137,7 @@ impl<'a> Walk<'a> {
                         return Some(row);
                     }
                 }
-                self.under(frame.target, &name)
+                self.under(frame.target, &name, 0)
             }
             _ => if row.count > 0 { Some(row) } else { None },
         }

@@ -1,12 +1,12 @@
 //! The walk: a loop over the nodes that meet.
-ghost use Rattle.std.specs.Prelude.{◌≡◌, ◌<◌, ◌≤◌, ◌++◌, length, drop, IfOk, MatchResult};
+ghost use Rattle.std.specs.Prelude.{◌≡◌, ◌<◌, ◌≤◌, ◌∷◌, ◌++◌, length, drop, IfOk, MatchResult};
 ghost use Rattle.trees.specs.Tree.{Tree};
 ghost use Rattle.cells.specs.Layout.{Lies, root};
 ghost use Rattle.patch.specs.Manners.{taken};
 ghost use Rattle.patch.specs.Edits.{Keeps};
 ghost use Rattle.patch.specs.declared.frames.Step.TheVariants.{On, Done};
-ghost use Rattle.patch.specs.Walk.{Task, Meets, IsLaidOrOpen, IsLaid, IsAtStep, Grows, IsRootDone, IsEnded};
-ghost use Rattle.patch.specs.Walk.{frames_of, way, weight};
+ghost use Rattle.patch.specs.Walk.{Task, Meets, IsLaidOrOpen, HasLaid, IsAtStep, Grows, IsRootDone, IsEnded};
+ghost use Rattle.patch.specs.Walk.{frames_of, way, rank, weight};
 
 use crate::edits::{extend, switch};
 use crate::errors::ApplyError;
@@ -80,17 +80,6 @@ impl<'a> Walk<'a> {
         }
     }
 
-    /// Where two nodes end, one laid on the other.
-    fn both_ends(&self, at: Meeting) -> Ends
-        requires { (k : Task) × IsLaid k self.now at }
-        ensures { (k : Task) → IsLaid k self.now at → IsAtStep k self.now (Done result) }
-    {
-        Ends {
-            target: self.end_of(at.target),
-            patch: self.end_of(at.patch),
-        }
-    }
-
     /// The patch's node is laid on the target's, which is done then or goes on.
     fn meet(&mut self, at: Meeting) -> Result<Step, ApplyError>
         requires { (k : Task) × Meets k self.old at }
@@ -100,7 +89,7 @@ impl<'a> Walk<'a> {
     {
         match self.lay_node(at)? {
             Some(frame) => Ok(Step::On(frame)),
-            None => Ok(Step::Done(self.both_ends(at))),
+            None => Ok(Step::Done(at.ends())),
         }
     }
 
@@ -123,7 +112,7 @@ impl<'a> Walk<'a> {
             patch,
         };
         self.used = extend(self.cells, self.used, list, end)?;
-        Ok(Step::Done(self.both_ends(Meeting { target: end, patch })))
+        Ok(Step::Done(Meeting { target: end, patch }.ends()))
     }
 
     /// A node goes on with the patch's next child, or is done.
@@ -136,8 +125,8 @@ impl<'a> Walk<'a> {
     {
         if frame.next.count == 0 {
             return Ok(Step::Done(Ends {
-                target: self.end_of_row(frame.row),
-                patch: frame.next.at,
+                target: frame.row,
+                patch: frame.next,
             }));
         }
         match self.partner(frame) {
@@ -159,6 +148,30 @@ impl<'a> Walk<'a> {
         }
     }
 
+    /// A child is done: the node around it goes on behind the child, or is done as well, and then
+    /// nothing asks where the child ends.
+    fn go_up(&self, frame: Frame, ends: Ends) -> Step
+        requires { (k : Task) × HasLaid k self.now frame ends }
+        ensures comes { (k : Task) → HasLaid k self.now frame ends → IsAtStep k self.now result }
+        ensures falls { weight result self.now < rank 65535 (frame ∷ frames_of self.now) }
+    {
+        if frame.is_last() {
+            return Step::Done(Ends {
+                target: ends.target.longer(frame.row.count - 1),
+                patch: ends.patch.longer(frame.next.count - 1),
+            });
+        }
+        let next = self.end_of_row(ends.patch);
+        let row = match frame.pairing {
+            Pairing::ByName => {
+                let name = self.cells[next].label;
+                self.row_by_name(frame, ends.target, &name)
+            }
+            _ => self.row_behind(frame, ends.target),
+        };
+        Step::On(frame.after_child(row, next))
+    }
+
     /// A loop with a stack of its own, at most 16 levels: the nodes that meet, one after the other, until the root is done or the patch does not fit.
     pub fn run(&mut self, from: Meeting) -> Result<(), ApplyError>
         requires { (k : Task) × Meets k self.old from }
@@ -172,7 +185,7 @@ impl<'a> Walk<'a> {
                 Step::On(frame) => step = self.advance(frame)?,
                 Step::Done(ends) => match self.stack.pop() {
                     None => return Ok(()),
-                    Some(frame) => step = Step::On(frame.after_child(ends)),
+                    Some(frame) => step = self.go_up(frame, ends),
                 },
             }
         }

@@ -8,7 +8,8 @@ use Rattle.trees.specs.Calls as calls
 use Rattle.trees.specs.Play.{step}
 use Rattle.script.specs.declared.answer.Value.{Value}
 use Rattle.script.specs.declared.answer.Stopped.{Stopped}
-use Rattle.script.specs.Answers.{Fields, fields_of, shown, bare, reply_of}
+use Rattle.script.specs.declared.answer.Fields.{Fields}
+use Rattle.script.specs.Answers.{fields_of, shown, bare, reply_of}
 use Rattle.shelf.specs.declared.patching.Stop.{Stop}
 use Rattle.shelf.specs.Answers.{told}
 use Rattle.shelf.specs.Stops.{stopping, IsShort}

@@ -4,7 +4,8 @@ use Rattle.rules.specs.Meaning.{Meaning}
 use Rattle.trees.specs.State.{State}
 use Rattle.trees.specs.Calls.{Call}
 use Rattle.trees.specs.Play.{step}
-use Rattle.script.specs.Answers.{Fields, reply_of}
+use Rattle.script.specs.declared.answer.Fields.{Fields}
+use Rattle.script.specs.Answers.{reply_of}
 
 -- under a rule, the call leads from the old state to the new one, and is replied to, as the theory says
 pub record Replies (m : Meaning) (c : Call) (old new : State) (reply : Fields) : Type 0 where

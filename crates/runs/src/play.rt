@@ -1,27 +1,38 @@
 //! Playing a whole script.
-ghost use Rattle.std.specs.Prelude.{◌≡◌, ◌*◌, ◌≤◌, true, length, if◌then◌else◌, Ok, Err};
+ghost use Rattle.std.specs.Prelude.{◌≡◌, ◌*◌, ◌≤◌, length, if◌then◌else◌, Ok, Err};
 ghost use Rattle.trees.specs.declared.codes.Refusal.TheVariants.{Lent};
 ghost use Rattle.trees.specs.Play.{play};
 ghost use Rattle.trees.specs.Runs.{AgreeAfterRuns};
-ghost use Rattle.script.specs.Scripts.{count, records, calls, all_fit, fit, answered};
+ghost use Rattle.script.specs.Records.{record_of, call_of};
+ghost use Rattle.script.specs.Answers.{fields_of};
+ghost use Rattle.script.specs.Scripts.{count, records, calls, fit, answered};
+ghost use Rattle.runs.specs.Replies.{Replies};
 
 use crate::acts::act;
 use rules::rule::LeafRule;
+use script::answer::Reply;
 use script::record::Call;
 use script::{answer, record, scripts};
 use shelf::Shelf;
 use trees::codes::Refusal;
 
-/// Plays the records of a script that is fit.
+/// Plays one record, fit or not.
+fn play_record<R: LeafRule>(shelf: &mut Shelf<'_>, rule: &R, bytes: &[u8]) -> Reply
+    requires { length bytes.now ≡ 80 }
+    ensures { Replies (R.means rule.now) (call_of (record_of bytes.now)) shelf.old shelf.new (fields_of result) }
+{
+    act(shelf, rule, &Call::read(bytes))
+}
+
+/// Plays the records of a script, each as its bytes stand when its turn comes.
 fn play_records<R: LeafRule>(shelf: &mut Shelf<'_>, rule: &R, script: &[u8], answers: &mut [u8])
-    requires fit { all_fit (records script.now) ≡ true }
     requires room { 16 * count script.now ≤ length answers.old }
     ensures trees { shelf.new ≡ play (R.means rule.now) shelf.old (calls (records script.now)) }
     ensures bytes { answers.new ≡ answered (R.means rule.now) shelf.old script.now answers.old }
 {
     // the part written goes by its index: what is written through chunks_exact_mut is not known afterwards
     for (i, bytes) in script.chunks_exact(record::SIZE).enumerate() {
-        let reply = act(shelf, rule, &Call::read(bytes));
+        let reply = play_record(shelf, rule, bytes);
         answers[answer::SIZE * i..answer::SIZE * i + answer::SIZE].copy_from_slice(&answer::bytes(
             reply,
         ));

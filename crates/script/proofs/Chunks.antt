@@ -8,7 +8,8 @@ use Rattle.std.proofs.Common.{◌≡◌, ℕ, zero, suc, ◌+◌, ◌-◌, ◌*�
 use Rattle.std.proofs.lemmas.Bool.{and_from, and_right}
 use denote.Ref.{Bor}
 use denote.Param.Members.{Mut, Called}
-use Rattle.script.specs.Records.{Record, record_of, fit_record}
+use Rattle.script.specs.declared.record.Record.{Record}
+use Rattle.script.specs.Records.{record_of, fit_record}
 use Rattle.script.specs.Scripts.{record_at, records, count, all_fit, fit}
 use Rattle.script.proofs.ScriptLaws.{unfit, is_fit}
 

@@ -12,7 +12,8 @@ use Rattle.std.proofs.lemmas.Iterator.{YieldsList}
 use Rattle.std.proofs.lemmas.Iterator.Consumers.{YieldsList-turn, YieldsList-end, YieldsList-from_enumerate}
 use Rattle.std.proofs.lemmas.Iterator.Splits.{YieldsList-from_shown_while}
 use denote.Ref.{Bor}
-use Rattle.script.specs.Records.{Record, fit_record}
+use Rattle.script.specs.declared.record.Record.{Record}
+use Rattle.script.specs.Records.{fit_record}
 use Rattle.script.specs.Scripts.{record_at, records, count, all_fit}
 use Rattle.script.proofs.ScriptLaws.{length-records, getD_records}
 
@@ -63,17 +64,6 @@ pub length_piece : (script : List ℕ) (n : ℕ) → n < count script → length
 length_piece script n l =
     let d = length-drop (80 * n) script in
     length-take-le (80 * n + 80 - 80 * n) (drop (80 * n) script) (omega arith) ∙ omega arith
-
--- each record of a script of fit ones is fit
-all_at : (rs : List Record) (k : ℕ) (d : Record) → k < length rs → all_fit rs ≡ true → fit_record (get_or rs k d) ≡ true
-all_at [] k d l h = absurd (omega arith)
-all_at (r ∷ rs) zero d l h = (and_parts (fit_record r) (all_fit rs) h).0
-all_at (r ∷ rs) (suc k) d l h = all_at rs k d (omega arith) (and_parts (fit_record r) (all_fit rs) h).1
-
-pub fit_at : (script : List ℕ) (n : ℕ) → n < count script → all_fit (records script) ≡ true → fit_record (record_at script n) ≡ true
-fit_at script n l h =
-    let e = length-records script in
-    sym (ap fit_record (getD_records script n (record_at script n) l)) ∙ all_at (records script) n (record_at script n) (omega arith) h
 
 module _ {s e : _} {k : _} (script : List ℕ) (same : s ≡ e) (source : enumerate_source e ≡ k) (none : enumerate_count e ≡ 0)
     (is : chunks_exact_rest k ≡ script) (size : chunks_exact_size k ≡ 80) where

@@ -14,3 +14,4 @@ pub mod Stopped
 pub mod Wholes
 pub mod Answered
 pub mod Pops
+pub mod Fronts

@@ -1,11 +1,11 @@
 -- A mark that is set before a walk, and kept or rolled back after it.
-use Rattle.std.proofs.Common.{◌≡◌, ℕ, ◌<◌, true, false, List, [], get_or, Some, None, Err, Option, sym, refl, ap, ◌∙◌, subst, arith}
+use Rattle.std.proofs.Common.{◌≡◌, ℕ, ◌<◌, true, false, List, [], ◌∷◌, get_or, Some, None, Ok, Err, Option, Result, IsOk, sym, refl, ap, ◌∙◌, subst, arith}
 use Rattle.std.proofs.lemmas.Bool.{cond-true, cond-false}
 use Rattle.rules.specs.Meaning.{Meaning}
 use Rattle.trees.specs.declared.codes.Refusal.{Refusal}
-use Rattle.trees.specs.declared.codes.Refusal.TheVariants.{MarkOpen}
-use Rattle.trees.specs.Tests.{tests, is_some}
-use Rattle.trees.specs.Calls.{mark, Answer, Outcome, refused}
+use Rattle.trees.specs.declared.codes.Refusal.TheVariants.{MarkOpen, NoMark}
+use Rattle.trees.specs.Tests.{◌by◌, tests, is_none, is_some, Passed}
+use Rattle.trees.specs.Calls.{Call, mark, Answer, Outcome, refused, row_of}
 use Rattle.trees.specs.Play.{step}
 use Rattle.trees.proofs.Names.{by_test}
 use Rattle.trees.specs.State.{Slots, State}
@@ -16,7 +16,7 @@ use Rattle.shelf.specs.declared.slot.Slot.{Slot}
 use Rattle.shelf.specs.Holds.{Shows}
 use Rattle.shelf.specs.Patching.{IsReady}
 use Rattle.shelf.specs.Places.{IsFull}
-use Rattle.shelf.specs.Answers.{plainly}
+use Rattle.shelf.specs.Answers.{plainly, spent}
 use Rattle.shelf.specs.Does.{DoesUnder}
 use Rattle.shelf.specs.declared.marks.Mark.{Mark}
 
@@ -43,6 +43,18 @@ module _ (m : Meaning) (s : State) {new : State} where
       let k : step m s mark ≡ deed m s mark = cond-false (is_some s.saved) (refused s MarkOpen []) (deed m s mark) q in
       let z : ◌≡◌ {A = Option Refusal} (Some e) None = ap (λ (a : Answer). a.refusal) (d.answers ∙ ap (λ (o : Outcome). o.answer) k) in
       absurd (let y : ◌≡◌ {A = ℕ} 0 1 = cc in omega arith))
+
+-- the result of a call that took a mark and was not refused
+took : {X : Type 0} (r : Result (Unit {0}) X) → (plainly (spent r)).refusal ≡ None → IsOk r
+took (Ok x) e = refl
+took (Err x) e = absurd (let z : ◌≡◌ {A = ℕ} 0 1 = cc in omega arith)
+
+-- where a mark is open, a call that ends it is not refused
+pub ended : (m : Meaning) {s new : State} {c : Call} {X : Type 0} (r : Result (Unit {0}) X) → DoesUnder m c s new (plainly (spent r)) →
+    tests m s c ≡ (is_none s.saved by NoMark ∷ []) → (deed m s c).answer.refusal ≡ None → is_none s.saved ≡ false → IsOk r × (new ≡ (deed m s c).state)
+ended m {s} {c} r d bad free still =
+    let e = unless_passed s (row_of c) (tests m s c) (deed m s c) (subst Passed (sym bad) (still, tt)) in
+    (took r (ap (λ (a : Answer). a.refusal) (d.answers ∙ ap (λ (o : Outcome). o.answer) e) ∙ free), d.state ∙ ap (λ (o : Outcome). o.state) e)
 
 -- a mark changes no slot
 pub ready_still : {i j : Rack} {s : State} (slots : Slot × Slot) {row : List ℕ} → Shows i s → Shows j (mark_set s) → IsReady i slots row → IsReady j slots row

@@ -12,13 +12,13 @@ impl Shelf<'_> {
     pub fn push(&mut self, slot: usize, path: &[u16], second: usize) -> Result<(), Refusal>
         ensures { Does (pushes slot path.now second) self.old self.new (plainly result) }
     {
-        let (spot, second) = self.rack.meet(slot, path, second)?;
-        if !spot.cell.head.is_unnamed() {
+        let (node, second) = self.rack.meet(slot, path, second)?;
+        if !node.cell.head.is_unnamed() {
             return Err(Refusal::Kind);
         }
         self.rack.deep_enough(path, second)?;
         self.rack
-            .add(&spot, spot.cell.children, second, Name::EMPTY);
+            .add(&node, node.cell.children, second, Name::EMPTY);
         Ok(())
     }
 
@@ -32,15 +32,15 @@ impl Shelf<'_> {
     ) -> Result<(), Refusal>
         ensures { Does (put_at slot path.now second index) self.old self.new (plainly result) }
     {
-        let (spot, second) = self.rack.meet(slot, path, second)?;
-        if !spot.cell.head.is_list() {
+        let (list, second) = self.rack.meet(slot, path, second)?;
+        if !list.cell.head.is_list() {
             return Err(Refusal::Kind);
         }
-        if index > spot.cell.children {
+        if index > list.cell.children {
             return Err(Refusal::Index);
         }
         self.rack.deep_enough(path, second)?;
-        self.rack.add(&spot, index, second, Name::EMPTY);
+        self.rack.add(&list, index, second, Name::EMPTY);
         Ok(())
     }
 

@@ -35,6 +35,7 @@ mod taking;
 
 pub use derived::{is_variant, pop, to_dynamic};
 pub use marks::{Mark, NoMark};
+pub use patch::{ApplyError, Fault};
 pub use patching::Stop;
 pub use reads::Look;
 

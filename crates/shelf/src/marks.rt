@@ -35,7 +35,7 @@ impl Shelf<'_> {
     }
 
     /// Ends a mark and leaves the trees.
-    pub(crate) fn end(&mut self, mark: Mark)
+    fn end(&mut self, mark: Mark)
         ensures { self.new ≡ mark_kept self.old }
     {
         let Mark { seal: () } = mark;
@@ -43,7 +43,7 @@ impl Shelf<'_> {
     }
 
     /// Ends a mark and restores every slot as of then.
-    pub(crate) fn undo(&mut self, mark: Mark)
+    fn undo(&mut self, mark: Mark)
         ensures { self.new ≡ rolled_back self.old }
     {
         let Mark { seal: () } = mark;

@@ -74,11 +74,11 @@ impl Shelf<'_> {
         let mark = self.mark()?;
         match self.rack.lay(target, second, row) {
             Ok(()) => {
-                self.end(mark);
+                self.keep(mark).unwrap();
                 Ok(())
             }
             Err(fault) => {
-                self.undo(mark);
+                self.roll_back(mark).unwrap();
                 Err(Stop::Fault(fault))
             }
         }

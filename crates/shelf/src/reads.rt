@@ -73,11 +73,11 @@ impl Shelf<'_> {
     pub fn index_of(&self, slot: usize, path: &[u16], name: &[u8]) -> Result<Option<usize>, Refusal>
         ensures { Does (index_of slot path.now name.now) self.now self.now (told number [] result) }
     {
-        let spot = self.rack.stand(slot, path)?;
+        let parent = self.rack.stand(slot, path)?;
         // the kit cannot build its plan of a function that carries a head and names none
-        let _ = spot.cell.head.is_list();
+        let _ = parent.cell.head.is_list();
         let label = Name::new(name).ok_or(Refusal::Name)?;
-        Ok(self.rack.field(&spot, &label))
+        Ok(self.rack.field(&parent, &label))
     }
 
     /// What a node is; its variant name goes to the front of a row of 32 or more.
@@ -86,9 +86,9 @@ impl Shelf<'_> {
             (told seen_by row.new result) }
     {
         name_row(row)?;
-        let spot = self.rack.stand(slot, path)?;
-        let name_len = show_variant(&spot.cell.head, row);
-        Ok(look_of(&spot.cell.head, spot.cell.children, name_len))
+        let node = self.rack.stand(slot, path)?;
+        let name_len = show_variant(&node.cell.head, row);
+        Ok(look_of(&node.cell.head, node.cell.children, name_len))
     }
 
     /// The name of a node's child goes to the front of a row of 32 or more, and its length is told, 0 for none.

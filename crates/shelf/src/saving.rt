@@ -11,7 +11,10 @@ fn copy_front(from: &mut [Cell], to: &mut [Cell], count: usize)
     ensures from { from.new ≡ from.old }
     ensures to { to.new ≡ take count from.old ++ drop count to.old }
 {
-    to[..count].copy_from_slice(&from[..count]);
+    // By hand: `copy_from_slice` would be a call of `memmove`, which C programs need not have.
+    for i in 0..count {
+        to[i] = from[i];
+    }
 }
 
 impl Rack<'_> {

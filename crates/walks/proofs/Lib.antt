@@ -6,3 +6,4 @@ pub mod EqualWalks
 pub mod CompareWalks
 pub mod Made
 pub mod HashWalks
+pub mod Scans

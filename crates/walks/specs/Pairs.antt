@@ -1,5 +1,5 @@
 -- The pairs that are left of two rows of children.
-use Rattle.std.specs.Prelude.{◌≡◌, ℕ, ◌+◌, ◌*◌, ◌≤◌, max, Bool, true, false, List, [], ◌∷◌, Some, None, Option, option_map, IfSome}
+use Rattle.std.specs.Prelude.{◌≡◌, ℕ, ◌+◌, ◌*◌, ◌≤◌, max, Bool, true, false, List, [], ◌∷◌, drop, Some, None, Option, option_map, IfSome, MatchOption}
 use Rattle.trees.specs.Name.{Name, distinct}
 use Rattle.trees.specs.declared.head.Head.{Head}
 use Rattle.trees.specs.Tree.{Tree, Forest, empty, more, labels, named, under, size, sizes, height, heights}
@@ -73,7 +73,13 @@ pub record PairAndRest (old : Pairs) (p : Pair × Pairs) : Type 0 where
   pub low : levels p.1 ≤ levels old
   pub met : IfSome p.0.theirs (λ y. Meets old p.1 (tree p.0.ours) (tree y))
 
+-- the first child has no partner, and all are left as they were
+pub record IsAlone (old new : Pairs) (child : Node) : Type 0 where
+  pub split : pairs old ≡ (tree child, None) ∷ drop 1 (pairs old)
+  pub kept : new ≡ old
+
 -- the first pair is taken away, if there is one
 abbrev pub TakesFirst : Pairs → Pairs → Option Pair → Type 0
 TakesFirst old new None = pairs old ≡ []
-TakesFirst old new (Some pair) = PairAndRest old (pair, new)
+TakesFirst old new (Some pair) =
+    MatchOption pair.theirs (IsAlone old new pair.ours) (λ partner. PairAndRest old (pair, new))

@@ -8,6 +8,7 @@ mod heads;
 mod met;
 mod ordering;
 mod pairs;
+pub mod seeking;
 
 pub use equality::equal;
 pub use hashing::hash;

@@ -45,17 +45,17 @@ fn partners_of<'a>(ours: Kids<'a>, theirs: Kids<'a>) -> Partners<'a>
     let mut y = theirs;
     // the flag comes by `break`, as soon as two names are unlike or a row ends
     let same = loop {
-        let Some((a, rest)) = x.split_first() else {
+        let Some(a) = x.first() else {
             break y.len() == 0;
         };
-        let Some((b, others)) = y.split_first() else {
-            break false;
+        let Some(b) = y.first() else {
+            break x.len() == 0;
         };
         if *a.label() != *b.label() {
             break false;
         }
-        x = rest;
-        y = others;
+        x = x.rest();
+        y = y.rest();
     };
     if same {
         Partners::ByPlace(theirs)

@@ -32,24 +32,25 @@ impl<'a> Fields<'a> {
     pub fn find(self, name: &Name) -> Option<(Node<'a>, Fields<'a>)>
         ensures { Finds self.entry name.now result }
     {
-        // Left by its label as soon as a name is found, by the hint or among all.
-        let mut rest = self.hint;
+        // Left by its label as soon as a name is found, by the hint or among all, with the row from
+        // there on: only children that are passed over are gone through.
         let found = 'search: {
-            if let Some((child, others)) = rest.split_first() {
+            if let Some(child) = self.hint.first() {
                 if *name == *child.label() {
-                    break 'search Some((child, others));
+                    break 'search Some(self.hint);
                 }
             }
-            rest = self.row;
-            while let Some((child, others)) = rest.split_first() {
+            let mut left = self.row;
+            while let Some(child) = left.first() {
                 if *name == *child.label() {
-                    break 'search Some((child, others));
+                    break 'search Some(left);
                 }
-                rest = others;
+                left = left.rest();
             }
             None
         };
-        let (child, hint) = found?;
+        let from = found?;
+        let (child, hint) = from.split_first()?;
         Some((
             child,
             Fields {
@@ -91,37 +92,37 @@ impl<'a> Pairs<'a> {
     ghost use Rattle.walks.specs.Pairs.{TakesFirst};
 
     /// The first pair, which is taken away. By place, the shorter row decides how many there are.
+    /// Where the first child has no partner nothing is taken, and the child is not gone through.
     #[inline(always)]
     pub fn next(&mut self) -> Option<Pair<'a>>
         ensures { TakesFirst self.old self.new result }
     {
-        let (child, ours) = self.ours.split_first()?;
+        let child = self.ours.first()?;
         match self.theirs {
             Partners::ByPlace(row) => {
-                let (partner, rest) = row.split_first()?;
-                self.ours = ours;
+                let partner = row.first()?;
+                let rest = row.rest();
+                self.ours = self.ours.rest();
                 self.theirs = Partners::ByPlace(rest);
                 Some(Pair {
                     ours: child,
                     theirs: Some(partner),
                 })
             }
-            Partners::ByName(fields) => {
-                self.ours = ours;
-                match fields.find(child.label()) {
-                    Some((partner, rest)) => {
-                        self.theirs = Partners::ByName(rest);
-                        Some(Pair {
-                            ours: child,
-                            theirs: Some(partner),
-                        })
-                    }
-                    None => Some(Pair {
+            Partners::ByName(fields) => match fields.find(child.label()) {
+                Some((partner, rest)) => {
+                    self.ours = self.ours.rest();
+                    self.theirs = Partners::ByName(rest);
+                    Some(Pair {
                         ours: child,
-                        theirs: None,
-                    }),
+                        theirs: Some(partner),
+                    })
                 }
-            }
+                None => Some(Pair {
+                    ours: child,
+                    theirs: None,
+                }),
+            },
         }
     }
 }

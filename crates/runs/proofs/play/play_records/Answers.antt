@@ -2,22 +2,17 @@ use Rattle.std.proofs.Common.{◌≡◌, ℕ, ◌+◌, ◌-◌, ◌*◌, List, �
 use borrow.Rule.Slice.PartMut.{put_mid}
 use Rattle.std.proofs.lemmas.List.{length_push}
 use Rattle.trees.specs.Play.{step, play, answers}
-use Rattle.script.specs.Records.{record_of, fit_record, call_of}
+use Rattle.script.specs.Records.{record_of, call_of}
 use Rattle.script.specs.Answers.{reply_of, reply_bytes}
 use Rattle.script.specs.Scripts.{said, record_at}
-use Rattle.script.proofs.Pieces.{turn, over, fit_at, length_piece}
+use Rattle.script.proofs.Pieces.{turn, over, length_piece}
 use Rattle.runs.proofs.Playing.{first, trees_more, bytes_more, bytes_length, first_all, put_next, length_reply}
 use Rattle.runs.proofs.play.play_records.Goals as goal
 
-pub read-requires-clause-size : goal.read-requires-clause-size
-read-requires-clause-size g c =
+pub play_record-reply-requires : goal.play_record-reply-requires
+play_record-reply-requires g c =
     let t = turn c.args.script.now c.into_iter-i-iterator.ensures.into_iter_gives c.enumerate-i-items.ensures.source c.enumerate-i-items.ensures.count c.chunks_exact.ensures.rest c.chunks_exact.ensures.size _ _ c.loop-i.yielded c.loop-i.yielded_by _ _ _ c.in-Some.is c.next.ensures.steps in
     ap (λ (b : List ℕ). length b) t.2 ∙ length_piece c.args.script.now (length c.loop-i.yielded) t.0
-
-pub read-requires-clause-fit : goal.read-requires-clause-fit
-read-requires-clause-fit g c =
-    let t = turn c.args.script.now c.into_iter-i-iterator.ensures.into_iter_gives c.enumerate-i-items.ensures.source c.enumerate-i-items.ensures.count c.chunks_exact.ensures.rest c.chunks_exact.ensures.size _ _ c.loop-i.yielded c.loop-i.yielded_by _ _ _ c.in-Some.is c.next.ensures.steps in
-    ap (λ (b : List ℕ). fit_record (record_of b)) t.2 ∙ fit_at c.args.script.now (length c.loop-i.yielded) t.0 c.requires.fit
 
 pub loop-i-preserved : goal.loop-i-preserved
 loop-i-preserved g c =
@@ -26,12 +21,12 @@ loop-i-preserved g c =
     let script = c.args.script.now in
     let n = length c.loop-i.yielded in
     let t = turn script c.into_iter-i-iterator.ensures.into_iter_gives c.enumerate-i-items.ensures.source c.enumerate-i-items.ensures.count c.chunks_exact.ensures.rest c.chunks_exact.ensures.size _ _ c.loop-i.yielded c.loop-i.yielded_by _ _ _ c.in-Some.is c.next.ensures.steps in
-    let called = c.read.ensures ∙ ap (λ (b : List ℕ). call_of (record_of b)) t.2 in
+    let called = ap (λ (b : List ℕ). call_of (record_of b)) t.2 in
     let more = length_push c.loop-i.yielded (c.in-Some.i, c.in-Some.bytes) in
     let before = play m s (first script n) in
     let call = call_of (record_at script n) in
-    let state = c.act-reply.ensures.state ∙ ap₂ (λ u k. (step m u k).state) c.loop-i.invariant.trees called in
-    let reply = c.act-reply.ensures.replied ∙ ap₂ (λ u k. reply_of (step m u k).answer) c.loop-i.invariant.trees called in
+    let state = c.play_record-reply.ensures.state ∙ ap₂ (λ u k. (step m u k).state) c.loop-i.invariant.trees called in
+    let reply = c.play_record-reply.ensures.replied ∙ ap₂ (λ u k. reply_of (step m u k).answer) c.loop-i.invariant.trees called in
     let bytes : c.copy_from_slice.new.self ≡ reply_bytes (reply_of (step m before call).answer) =
     c.copy_from_slice.ensures.after ∙ c.bytes.ensures ∙ ap reply_bytes reply in
     let lt = t.0 in

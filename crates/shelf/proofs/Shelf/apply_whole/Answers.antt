@@ -3,7 +3,8 @@ use Rattle.std.proofs.lemmas.Result.{err_from_is_err_and}
 use Rattle.rules.specs.Meaning.{Meaning}
 use Rattle.trees.specs.declared.codes.Refusal.TheVariants.{MarkOpen}
 use Rattle.trees.specs.Calls.{lay_whole}
-use Rattle.trees.specs.Tests.{◌by◌, is_some, Passed}
+use Rattle.trees.specs.Tests.{◌by◌, is_none, is_some, Passed}
+use Rattle.trees.specs.State.{State}
 use Rattle.trees.specs.Deeds.{mark_set, mark_kept, rolled_back}
 use Rattle.shelf.specs.Holds.{Holds}
 use Rattle.shelf.specs.Patching.{laying}
@@ -12,7 +13,7 @@ use Rattle.trees.specs.Tests.{tests}
 use Rattle.shelf.proofs.States.{any_rule, holds, held, seen}
 use Rattle.shelf.proofs.Outcomes.{refuses, later, both}
 use Rattle.shelf.proofs.Stopped.{stop_result, Laid, laid_by, holds_laid, lays_short, lays_kept, lays_undone}
-use Rattle.shelf.proofs.Wholes.{marked, unmarked, ready_still}
+use Rattle.shelf.proofs.Wholes.{marked, unmarked, ended, ready_still}
 use Rattle.shelf.proofs.Shelf.apply_whole.Goals as goal
 use Rattle.shelf.proofs.Shelf.apply_whole.Goals.{After-lay}
 
@@ -60,6 +61,19 @@ invariant_of-self c = holds _
 pub invariant_of-self-in-Err : goal.invariant_of-self-in-Err
 invariant_of-self-in-Err c = holds _
 
+-- it is still open after it: keeping it and rolling back to it are not refused
+pub unwrap-requires : goal.unwrap-requires
+unwrap-requires c =
+    let a = (goal.at.unwrap-requires c).After-lay in
+    let o = seen _ (holds_laid (held c.self.invariant c.self.view_is) (walked a) (opened a) refl) in
+    (ended any_rule _ (c.keep.ensures any_rule) refl refl (ap (λ (s : State). is_none s.saved) o)).0
+
+pub unwrap-requires-in-Err : goal.unwrap-requires-in-Err
+unwrap-requires-in-Err c =
+    let a = (goal.at.unwrap-requires-in-Err c).After-lay in
+    let o = seen _ (holds_laid (held c.self.invariant c.self.view_is) (walked a) (opened a) refl) in
+    (ended any_rule _ (c.roll_back.ensures any_rule) refl refl (ap (λ (s : State). is_none s.saved) o)).0
+
 pub returns-in-Ok : goal.returns-in-Ok
 returns-in-Ok c =
     let a = (goal.at.returns-in-Ok c).After-lay in
@@ -67,7 +81,8 @@ returns-in-Ok c =
     let d = walked a in
     let n = (marked any_rule _ (c.in_ok-mark.ensures any_rule) refl).0 in
     let o = seen _ (holds_laid h d (opened a) refl) in
-    record { does = λ m. lays_kept h d m (passed a m) n c.in-Ok.is (c.end.ensures ∙ ap mark_kept o); short = tt }
+    let e = ended any_rule _ (c.keep.ensures any_rule) refl refl (ap (λ (s : State). is_none s.saved) o) in
+    record { does = λ m. lays_kept h d m (passed a m) n c.in-Ok.is (e.1 ∙ ap mark_kept o); short = tt }
 
 pub returns-in-Err : goal.returns-in-Err
 returns-in-Err c =
@@ -76,4 +91,5 @@ returns-in-Err c =
     let d = walked a in
     let n = (marked any_rule _ (c.in_ok-mark.ensures any_rule) refl).0 in
     let o = seen _ (holds_laid h d (opened a) refl) in
-    record { does = λ m. lays_undone h d m (passed a m) n c.in-Err.is (c.undo.ensures ∙ ap rolled_back o); short = subst IsShort (ap stop_result c.in-Err.is) (lays_short h d) }
+    let e = ended any_rule _ (c.roll_back.ensures any_rule) refl refl (ap (λ (s : State). is_none s.saved) o) in
+    record { does = λ m. lays_undone h d m (passed a m) n c.in-Err.is (e.1 ∙ ap rolled_back o); short = subst IsShort (ap stop_result c.in-Err.is) (lays_short h d) }

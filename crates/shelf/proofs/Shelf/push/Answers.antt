@@ -20,7 +20,7 @@ done c m =
     let j = c.args.second in
     let p = c.args.path.now in
     let h = held c.self.invariant c.self.view_is in
-    let w = c.in_ok-spot.ensures.meets s h in
+    let w = c.in_ok-node.ensures.meets s h in
     let q = w.1 in
     let a = q.there in
     record {

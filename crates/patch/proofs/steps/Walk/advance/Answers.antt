@@ -5,19 +5,16 @@ use Rattle.patch.specs.declared.frames.Frame.{Frame}
 use Rattle.patch.specs.Walk.{frames_of}
 use Rattle.patch.proofs.Meetings.{met_less, meets_by}
 use Rattle.patch.proofs.Spots.{spot_patch}
-use Rattle.patch.proofs.Nexts.{node_done, node_reaches, stack_room, child_spot, child_comes, goes_onto, goes_past}
+use Rattle.patch.proofs.Nexts.{node_done, stack_room, child_spot, child_comes, goes_onto, goes_past}
 use Rattle.patch.proofs.Ways.{pushed}
 use Rattle.patch.proofs.Ranks.{done_falls, skip_falls}
 use Rattle.patch.proofs.steps.Walk.advance.Goals as goal
 
-pub end_of_row-requires : goal.end_of_row-requires
-end_of_row-requires c = let k = c.requires.0 in let w = c.requires.1 in (_, _, _, node_reaches k.base k.name c.args.frame _ _ _ k.outcome w)
-
 pub returns-then-frame-eq0-clause-comes : goal.returns-then-frame-eq0-clause-comes
-returns-then-frame-eq0-clause-comes c k w = node_done k.base k.name c.args.frame _ _ _ k.outcome w c.if-frame-eq0.true _ (c.end_of_row.ensures _ _ _ (node_reaches k.base k.name c.args.frame _ _ _ k.outcome w))
+returns-then-frame-eq0-clause-comes c k w = node_done k.base k.name c.args.frame _ _ _ k.outcome w c.if-frame-eq0.true
 
 pub returns-then-frame-eq0-clause-falls : goal.returns-then-frame-eq0-clause-falls
-returns-then-frame-eq0-clause-falls c = done_falls 65535 (record { target = 0; patch = 0 }) c.args.frame _
+returns-then-frame-eq0-clause-falls c = done_falls 65535 (record { target = c.args.frame.row; patch = c.args.frame.next }) c.args.frame _
 
 pub partner-requires : goal.partner-requires
 partner-requires c =

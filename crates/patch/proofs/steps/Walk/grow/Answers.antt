@@ -5,6 +5,7 @@ use Rattle.trees.specs.Tree.{Tree, size}
 use Rattle.cells.proofs.Layouts.{lies_unique}
 use Rattle.patch.proofs.Spots.{spot_target}
 use Rattle.patch.proofs.Nexts.{child_placed, stack_room, child_spot, child_comes, goes_copied, copy_stops, node_end}
+use Rattle.patch.proofs.Meetings.{laid_ends}
 use Rattle.patch.proofs.Ways.{pushed}
 use Rattle.patch.proofs.Ranks.{child_falls}
 use Rattle.patch.proofs.steps.Walk.grow.Goals as goal
@@ -30,18 +31,12 @@ returns-in_err-self-clause-comes c =
     let n = g.alone _ _ (child_comes _ _ c.args.frame _ _ _ _ g.goes g.some) in
     copy_stops k.base k.name c.args.frame _ _ _ k.outcome g.goes g.some n g.extends _ _ _ (c.in_err-self.ensures _ _ _ (child_placed k c.args.self.now c.args.frame g.goes g.some)))
 
-pub both_ends-requires : goal.both_ends-requires
-both_ends-requires c =
-    let k = c.requires.0 in
-    let g = c.requires.1 in
-    let n = g.alone _ _ (child_comes _ _ c.args.frame _ _ _ _ g.goes g.some) in
-    (k, rw (pushed _ _ _ c.push.ensures.items) (goes_copied k.base k.name c.args.frame _ _ _ k.outcome g.goes g.some n g.extends _ refl refl _ _ (c.in_ok-self.ensures _ _ _ (child_placed k c.args.self.now c.args.frame g.goes g.some))))
-
 pub returns-clause-comes : goal.returns-clause-comes
 returns-clause-comes c k g =
     let n = g.alone _ _ (child_comes _ _ c.args.frame _ _ _ _ g.goes g.some) in
-    c.both_ends.ensures k
-    (rw (pushed _ _ _ c.push.ensures.items) (goes_copied k.base k.name c.args.frame _ _ _ k.outcome g.goes g.some n g.extends _ refl refl _ _ (c.in_ok-self.ensures _ _ _ (child_placed k c.args.self.now c.args.frame g.goes g.some))))
+    rw c.ends.ensures
+    (laid_ends k.base k.name _ _ _ _ k.outcome
+    (rw (pushed _ _ _ c.push.ensures.items) (goes_copied k.base k.name c.args.frame _ _ _ k.outcome g.goes g.some n g.extends _ refl refl _ _ (c.in_ok-self.ensures _ _ _ (child_placed k c.args.self.now c.args.frame g.goes g.some)))))
 
 pub returns-clause-falls : goal.returns-clause-falls
-returns-clause-falls c = child_falls 65535 (record { target = 0; patch = 0 }) c.args.frame _ _ _ (pushed _ _ _ c.push.ensures.items) refl
+returns-clause-falls c = child_falls 65535 c.ends.result c.args.frame _ _ _ (pushed _ _ _ c.push.ensures.items) refl

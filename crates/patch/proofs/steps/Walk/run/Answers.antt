@@ -1,17 +1,14 @@
-use Rattle.std.proofs.Common.{reverse, ap, ◌∙◌, subst, arith}
+use Rattle.std.proofs.Common.{reverse, sym, ap, ◌∙◌, subst}
 use Rattle.std.proofs.lemmas.Result.{err_from_is_err_and}
 use Rattle.arrayvec.specs.ArrayVec.{ArrayVec}
 use Rattle.patch.specs.declared.frames.Frame.{Frame}
 use Rattle.patch.specs.declared.frames.Step.{Step}
 use Rattle.patch.specs.declared.frames.Step.TheVariants.{On, Done}
-use Rattle.patch.specs.Rows.{onward}
-use Rattle.patch.specs.Walk.{Task, Meets, IsAtStep}
+use Rattle.patch.specs.Walk.{Task, Meets, IsAtStep, HasLaid}
 use Rattle.patch.proofs.Meetings.{finished_in}
-use Rattle.patch.proofs.Zippers.{some_left, resumed}
 use Rattle.patch.proofs.Ways.{pushed, emptied}
-use Rattle.patch.proofs.Ranks.{up_falls}
 use Rattle.patch.proofs.steps.Walk.run.Goals as goal
-use Rattle.patch.proofs.steps.Walk.run.Goals.{In-On, In-Done}
+use Rattle.patch.proofs.steps.Walk.run.Goals.{In-On, In-Done, In-Some}
 
 -- where the walk stands, told from where it began
 on : (c : In-On) (k : Task) → Meets k c.args.self.now c.args.from → IsAtStep k c.loop-step.self (On c.in-On.frame)
@@ -42,20 +39,17 @@ returns-in-None-clause-comes c k s =
       goes = finished_in k.base k.name _ _ k.outcome c.in-Done.ends same d;
     }
 
-pub after_child-requires : goal.after_child-requires
-after_child-requires c =
-    let k = c.requires.0 in
-    let r = some_left k.base k.name c.in-Some.frame _ _ _ k.outcome (pushed _ _ _ c.in-Some.ensures.items) c.in-Done.ends (done (goal.at.after_child-requires c).In-Done k c.requires.1) in
-    record { row = r.0; next = r.1; few = r.2 }
+-- the child is done, and the frame of the node around it is off the stack
+laid : (c : In-Some) (k : Task) → Meets k c.args.self.now c.args.from → HasLaid k (record { cells = c.loop-step.self.cells; used = c.loop-step.self.used; stack = c.pop.new.self }) c.in-Some.frame c.in-Done.ends
+laid c k s =
+    let off = pushed _ _ _ c.in-Some.ensures.items in
+    finished_in k.base k.name _ _ k.outcome c.in-Done.ends (sym off) (done (goal.at.go_up-step-requires c).In-Done k s)
+
+pub go_up-step-requires : goal.go_up-step-requires
+go_up-step-requires c = (c.requires.0, laid c c.requires.0 c.requires.1)
 
 pub loop-step-smaller : goal.loop-step-smaller
-loop-step-smaller c =
-    let k = c.requires.0 in
-    let r = some_left k.base k.name c.in-Some.frame _ _ _ k.outcome (pushed _ _ _ c.in-Some.ensures.items) c.in-Done.ends (done (goal.at.loop-step-smaller c).In-Done k c.requires.1) in
-    rw (c.in-Done.is, c.after_child.ensures) (up_falls 65535 c.in-Done.ends c.in-Some.frame (onward c.in-Some.frame c.in-Done.ends) _ _ (pushed _ _ _ c.in-Some.ensures.items) (omega (arith, r.1)))
+loop-step-smaller c = rw (c.in-Done.is, pushed _ _ _ c.in-Some.ensures.items) c.go_up-step.ensures.falls
 
 pub loop-step-preserved : goal.loop-step-preserved
-loop-step-preserved c = (
-  λ k s. rw c.after_child.ensures (resumed k.base k.name c.in-Some.frame _ _ _ k.outcome (pushed _ _ _ c.in-Some.ensures.items) c.in-Done.ends (done (goal.at.loop-step-preserved c).In-Done k s)),
-  c.loop-step.invariant.1,
-)
+loop-step-preserved c = (λ k s. c.go_up-step.ensures.comes k (laid (goal.at.loop-step-preserved c).In-Some k s), c.loop-step.invariant.1)

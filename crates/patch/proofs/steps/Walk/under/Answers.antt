@@ -1,11 +1,10 @@
-use Rattle.std.proofs.Common.{◌≡◌, ℕ, suc, Some, sym, ap, ◌∙◌, subst, add-zero, arith, rules}
+use Rattle.std.proofs.Common.{suc, ◌≤◌, Some, sym, ap, ◌∙◌, subst, add-zero, arith, rules}
 use Rattle.names.specs.Names.{same_name}
-use Rattle.trees.specs.Tree.{Tree, count}
-use Rattle.trees.specs.Place.{position_from}
+use Rattle.trees.specs.Tree.{Tree}
 use Rattle.cells.specs.Layout.{kids}
 use Rattle.cells.proofs.Layouts.{lies_count, lies_unique, before_first}
-use Rattle.patch.specs.Rows.{Under}
-use Rattle.patch.proofs.Places.{Not, row_read, row_lies, row_behind, not_more, position_first, position_none, from_below}
+use Rattle.patch.specs.Rows.{Under, Lacks}
+use Rattle.patch.proofs.Places.{row_read, row_lies, row_behind, not_more, position_first, position_not, from_below}
 use Rattle.patch.proofs.steps.Walk.under.Goals as goal
 
 pub loop-row-init : goal.loop-row-init
@@ -49,6 +48,8 @@ loop-row-preserved c =
 pub returns : goal.returns
 returns c t a =
     let i = c.loop-row.invariant in
-    let all : i.1 ≡ count (kids i.0) = omega (arith, i.4.count_is) in
     let n = c.args.name.now in
-    ap (λ (x : Tree). position_from 0 n (kids x)) (lies_unique a i.2) ∙ position_none 0 n (kids i.0) (subst (λ (k : ℕ). Not n (kids i.0) k) all i.5)
+    subst (λ (x : Tree). Lacks n (kids x) c.args.last) (lies_unique i.2 a)
+    (λ j e.
+    let few : i.1 ≤ j = position_not n (kids i.0) i.1 j i.5 e in
+    omega (arith, few, i.4.count_is))
