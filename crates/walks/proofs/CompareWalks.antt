@@ -19,7 +19,7 @@ use Rattle.cells.specs.Views.{tree, forest}
 use Rattle.cells.specs.declared.views.Node.{Node}
 use Rattle.cells.specs.declared.views.Kids.{Kids}
 use Rattle.cells.proofs.Layouts.{size_pos, height_pos}
-use Rattle.walks.specs.Pairs.{by_place, by_name, partners, pairs_with, pairs, is_by_name, levels, weight, Meets, PairAndRest, TakesFirst}
+use Rattle.walks.specs.Pairs.{by_place, by_name, partners, pairs_with, pairs, is_by_name, levels, weight, Meets, PairAndRest, ShowsFirst}
 use Rattle.walks.specs.declared.pairs.Partners.{Partners}
 use Rattle.walks.specs.declared.pairs.Partners.TheVariants.{ByPlace, ByName}
 use Rattle.walks.specs.declared.pairs.Pair.{Pair}
@@ -27,8 +27,8 @@ use Rattle.walks.specs.declared.pairs.Pairs.{Pairs}
 use Rattle.walks.specs.declared.ordering.Frame.{Frame}
 use Rattle.walks.specs.CompareWalk.{first_answer, all_answers, given, frame_answer, by_head, IsFrame, IsUneven, Takes, outcome, AreLow, load}
 use Rattle.walks.proofs.HeadLaws.{is_leaf, no_leaf}
+use Rattle.walks.proofs.Rests.{left_rest}
 use Rattle.walks.proofs.EqualWalks.{product_less}
-use Rattle.walks.proofs.Meetings.{a_partner, no_partner}
 
 -- rows whose names are alike so far
 pub order_step : (x y x' y' : Forest) (l k : Name) (t u : Tree) → x ≡ more l t x' → y ≡ more k u y' → same_name l k ≡ true → same_order x' y' ≡ same_order x y
@@ -257,42 +257,35 @@ module _ (m : Meaning) (fr : Frame) (stack : List Frame) (e : pairs fr.pairs ≡
     less_around new t = subst (λ st. load (new ∷ frs) < load (fr ∷ st)) (sym z) (omega (arith, t.less))
 
 -- the first pair of the innermost frame, and the rest
-module _ (m : Meaning) (fr : Frame) (frs : List Frame) (p : Pair × Pairs) (a : TakesFirst fr.pairs p.1 (Some p.0)) where
+module _ (m : Meaning) (fr : Frame) (frs : List Frame) (p : Pair × Pairs) (a : PairAndRest fr.pairs p) where
   abbrev pub on : Frame
   on = record { pairs = p.1; so_far = fr.so_far }
 
   abbrev asks : Tree → Tree → Option Ordering
   asks = compare_within m (15 - length frs)
 
-  pub alone : p.0.theirs ≡ None → outcome m frs (frame_answer m (15 - length frs) fr) ≡ None
-  alone e =
-      ap (λ ps. outcome m frs (cond (is_by_name fr.pairs.theirs) (together (Some fr.so_far) (together (Some Equal) (all_answers asks ps))) (while_equal (Some Equal) (first_answer asks ps fr.so_far)))) (no_partner fr.pairs p.1 p.0 a e).split
-      ∙ ap (outcome m frs) (go (is_by_name fr.pairs.theirs)) ∙ outcome_none m frs
+  abbrev first : Option Ordering
+  first = compare_found asks (tree p.0.ours) (option_map tree p.0.theirs)
+
+  stepped : frame_answer m (15 - length frs) fr ≡ given m (15 - length frs) on (compare_found (compare_within m (15 - length frs)) (tree p.0.ours) (option_map tree p.0.theirs))
+  stepped =
+      ap (λ ps. cond (is_by_name fr.pairs.theirs) (together (Some fr.so_far) (together (Some Equal) (all_answers asks ps))) (while_equal (Some Equal) (first_answer asks ps fr.so_far))) a.split
+      ∙ go (is_by_name fr.pairs.theirs)
+      ∙ ap (λ b. cond b (together (Some fr.so_far) (together first (all_answers asks (pairs p.1)))) (while_equal first (first_answer asks (pairs p.1) fr.so_far))) (sym a.alike)
     where
-      go : (b : Bool) → ◌≡◌ {A = Option Ordering} (cond b None None) None
-      go true = refl
+      go : (b : Bool) → cond b (together (Some fr.so_far) (together (Some Equal) (together first (all_answers asks (pairs p.1))))) (while_equal (Some Equal) (while_equal first (first_answer asks (pairs p.1) fr.so_far)))
+          ≡ cond b (together (Some fr.so_far) (together first (all_answers asks (pairs p.1)))) (while_equal first (first_answer asks (pairs p.1) fr.so_far))
+      go true = ap (together (Some fr.so_far)) (together_equal (together first (all_answers asks (pairs p.1))))
       go false = refl
 
+  pub alone : p.0.theirs ≡ None → outcome m frs (frame_answer m (15 - length frs) fr) ≡ None
+  alone e =
+      ap (outcome m frs) (stepped ∙ ap (λ o. given m (15 - length frs) on (compare_found (compare_within m (15 - length frs)) (tree p.0.ours) (option_map tree o))) e ∙ given_none m (15 - length frs) on)
+      ∙ outcome_none m frs
+
   module _ (y : Node) (e : p.0.theirs ≡ Some y) (low : AreLow (fr ∷ frs)) where
-    taken : PairAndRest fr.pairs p
-    taken = a_partner fr.pairs p.1 p.0 a y e
-
     meets : Meets fr.pairs p.1 (tree p.0.ours) (tree y)
-    meets = subst (λ o. IfSome o (λ y. Meets fr.pairs p.1 (tree p.0.ours) (tree y))) e taken.met
-
-    abbrev first : Option Ordering
-    first = compare_found asks (tree p.0.ours) (option_map tree p.0.theirs)
-
-    stepped : frame_answer m (15 - length frs) fr ≡ given m (15 - length frs) on (compare_found (compare_within m (15 - length frs)) (tree p.0.ours) (option_map tree p.0.theirs))
-    stepped =
-        ap (λ ps. cond (is_by_name fr.pairs.theirs) (together (Some fr.so_far) (together (Some Equal) (all_answers asks ps))) (while_equal (Some Equal) (first_answer asks ps fr.so_far))) taken.split
-        ∙ go (is_by_name fr.pairs.theirs)
-        ∙ ap (λ b. cond b (together (Some fr.so_far) (together first (all_answers asks (pairs p.1)))) (while_equal first (first_answer asks (pairs p.1) fr.so_far))) (sym taken.alike)
-      where
-        go : (b : Bool) → cond b (together (Some fr.so_far) (together (Some Equal) (together first (all_answers asks (pairs p.1))))) (while_equal (Some Equal) (while_equal first (first_answer asks (pairs p.1) fr.so_far)))
-            ≡ cond b (together (Some fr.so_far) (together first (all_answers asks (pairs p.1)))) (while_equal first (first_answer asks (pairs p.1) fr.so_far))
-        go true = ap (together (Some fr.so_far)) (together_equal (together first (all_answers asks (pairs p.1))))
-        go false = refl
+    meets = subst (λ o. IfSome o (λ y. Meets fr.pairs p.1 (tree p.0.ours) (tree y))) e a.met
 
     deeper : 15 - length frs ≡ suc (15 - suc (length frs))
     deeper = omega (arith, height_pos (tree y), meets.second, low.0)
@@ -319,7 +312,7 @@ module _ (m : Meaning) (fr : Frame) (frs : List Frame) (p : Pair × Pairs) (a : 
         goes_on new t = ap (outcome m frs) (sym (t.goes m (15 - length frs)) ∙ ap (given m (15 - length frs) on) (sym z) ∙ sym (answered r (k (15 - suc (length frs)))))
 
         pub on_low : (new : Frame) → Takes on o new → AreLow (new ∷ frs)
-        on_low new t = (omega (arith, taken.low, t.low, low.0), low.1)
+        on_low new t = (omega (arith, a.low, t.low, low.0), low.1)
 
         pub on_less : (new : Frame) → Takes on o new → load (new ∷ frs) < load (fr ∷ frs)
         on_less new t =
@@ -333,10 +326,14 @@ module _ (m : Meaning) (fr : Frame) (frs : List Frame) (p : Pair × Pairs) (a : 
       opened = ap (λ st. outcome m st (frame_answer m (15 - length st) inner)) z ∙ ap (outcome m frs) (sym (answered (frame_answer m (15 - suc (length frs)) inner) (k (15 - suc (length frs)))))
 
       pub opened_low : AreLow (inner ∷ stack)
-      opened_low = subst (λ st. AreLow (inner ∷ st)) (sym z) (omega (arith, less.0, meets.first, meets.second, low.0), (omega (arith, taken.low, low.0), low.1))
+      opened_low = subst (λ st. AreLow (inner ∷ st)) (sym z) (omega (arith, less.0, meets.first, meets.second, low.0), (omega (arith, a.low, low.0), low.1))
 
       pub opened_less : load (inner ∷ stack) < load (fr ∷ frs)
       opened_less = subst (λ st. load (inner ∷ st) < load (fr ∷ frs)) (sym z) (omega (arith, less.1, meets.less))
+
+-- the same of a pair that is shown: a child without a partner, that is still to be passed over
+pub alone_shown : (m : Meaning) (fr : Frame) (frs : List Frame) (p : Pair × Pairs) → ShowsFirst fr.pairs p.1 (Some p.0) → p.0.theirs ≡ None → outcome m frs (frame_answer m (15 - length frs) fr) ≡ None
+alone_shown m fr frs p a e = let l = left_rest fr.pairs p.1 (Some p.0) a in alone m fr frs (p.0, l.rest) l.taken e
 
 -- the walk at its beginning
 pub begun : (m : Meaning) (fr : Frame) (stack : List Frame) (a : Option Ordering) → stack ≡ [] → levels fr.pairs < 16 → a ≡ frame_answer m 15 fr → (outcome m stack (frame_answer m (15 - length stack) fr) ≡ a) × AreLow (fr ∷ stack)

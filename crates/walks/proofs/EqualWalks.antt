@@ -16,7 +16,7 @@ use Rattle.cells.specs.Views.{tree, forest}
 use Rattle.cells.specs.declared.views.Node.{Node}
 use Rattle.cells.proofs.Layouts.{size_pos, height_pos}
 use Rattle.cells.specs.declared.views.Kids.{Kids}
-use Rattle.walks.specs.Pairs.{by_place, by_name, partners, pairs_with, pairs, is_by_name, levels, weight, Meets, PairAndRest, TakesFirst}
+use Rattle.walks.specs.Pairs.{by_place, by_name, partners, pairs_with, pairs, is_by_name, levels, weight, Meets, PairAndRest, ShowsFirst}
 use Rattle.walks.specs.declared.pairs.Pair.{Pair}
 use Rattle.walks.specs.declared.pairs.Pairs.{Pairs}
 use Rattle.walks.specs.declared.equality.Frame.{Frame}
@@ -24,7 +24,7 @@ use Rattle.walks.specs.declared.pairs.Partners.{Partners}
 use Rattle.walks.specs.declared.pairs.Partners.TheVariants.{ByPlace, ByName}
 use Rattle.walks.specs.EqualWalk.{IsFrameOf, answers, sure, frame_answer, outcome, AreLow, load}
 use Rattle.walks.proofs.HeadLaws.{is_leaf, no_leaf}
-use Rattle.walks.proofs.Meetings.{a_partner, no_partner}
+use Rattle.walks.proofs.Rests.{left_rest}
 
 -- the pairs by the rows alone
 pub pairs_are : (f : Forest) (p : Partners) (b : Bool) → is_by_name p ≡ b → pairs_with f p ≡ cond b (by_name f (partners p)) (by_place f (partners p))
@@ -129,32 +129,29 @@ pub frame_done : (m : Meaning) (fr : Frame) (frs : List Frame) → pairs fr.pair
 frame_done m fr frs e = ap (λ ps. while_true (sure fr.sure (answers (equal_within m (15 - length frs)) ps)) (outcome m frs)) e ∙ ap (λ r. while_true r (outcome m frs)) (sure_true fr.sure true)
 
 -- the first pair of the innermost frame, and the rest
-module _ (m : Meaning) (fr : Frame) (frs : List Frame) (p : Pair × Pairs) (a : TakesFirst fr.pairs p.1 (Some p.0)) where
+module _ (m : Meaning) (fr : Frame) (frs : List Frame) (p : Pair × Pairs) (a : PairAndRest fr.pairs p) where
   abbrev pub on : List Frame
   on = record { pairs = p.1; sure = fr.sure } ∷ frs
 
+  pub stepped : outcome m (fr ∷ frs) ≡ while_true (sure fr.sure (equal_found (equal_within m (15 - length frs)) (option_map tree p.0.theirs) (tree p.0.ours))) (outcome m on)
+  stepped =
+      let ask = equal_within m (15 - length frs) in
+      let first = equal_found ask (option_map tree p.0.theirs) (tree p.0.ours) in
+      ap (λ ps. while_true (sure fr.sure (answers ask ps)) (outcome m frs)) a.split
+      ∙ ap (λ r. while_true r (outcome m frs)) (sure_while fr.sure first (answers ask (pairs p.1)))
+      ∙ while_while (sure fr.sure first) (sure fr.sure (answers ask (pairs p.1))) (outcome m frs)
+
   pub alone : p.0.theirs ≡ None → outcome m (fr ∷ frs) ≡ Some false
   alone e =
-      ap (λ ps. while_true (sure fr.sure (answers (equal_within m (15 - length frs)) ps)) (outcome m frs)) (no_partner fr.pairs p.1 p.0 a e).split
-      ∙ ap (λ r. while_true r (outcome m frs)) (sure_true fr.sure false)
+      stepped ∙ ap (λ o. while_true (sure fr.sure (equal_found (equal_within m (15 - length frs)) (option_map tree o) (tree p.0.ours))) (outcome m on)) e
+      ∙ ap (λ r. while_true r (outcome m on)) (sure_true fr.sure false)
 
   module _ (y : Node) (e : p.0.theirs ≡ Some y) (low : AreLow (fr ∷ frs)) where
-    taken : PairAndRest fr.pairs p
-    taken = a_partner fr.pairs p.1 p.0 a y e
-
     meets : Meets fr.pairs p.1 (tree p.0.ours) (tree y)
-    meets = subst (λ o. IfSome o (λ y. Meets fr.pairs p.1 (tree p.0.ours) (tree y))) e taken.met
-
-    pub stepped : outcome m (fr ∷ frs) ≡ while_true (sure fr.sure (equal_found (equal_within m (15 - length frs)) (option_map tree p.0.theirs) (tree p.0.ours))) (outcome m on)
-    stepped =
-        let ask = equal_within m (15 - length frs) in
-        let first = equal_found ask (option_map tree p.0.theirs) (tree p.0.ours) in
-        ap (λ ps. while_true (sure fr.sure (answers ask ps)) (outcome m frs)) taken.split
-        ∙ ap (λ r. while_true r (outcome m frs)) (sure_while fr.sure first (answers ask (pairs p.1)))
-        ∙ while_while (sure fr.sure first) (sure fr.sure (answers ask (pairs p.1))) (outcome m frs)
+    meets = subst (λ o. IfSome o (λ y. Meets fr.pairs p.1 (tree p.0.ours) (tree y))) e a.met
 
     pub on_low : AreLow on
-    on_low = (omega (arith, taken.low, low.0), low.1)
+    on_low = (omega (arith, a.low, low.0), low.1)
 
     pub on_less : load on < load (fr ∷ frs)
     on_less =
@@ -207,6 +204,10 @@ while_last : (r : Option Bool) → while_true r (Some true) ≡ r
 while_last None = refl
 while_last (Some true) = refl
 while_last (Some false) = refl
+
+-- the same of a pair that is shown: a child without a partner, that is still to be passed over
+pub alone_shown : (m : Meaning) (fr : Frame) (frs : List Frame) (p : Pair × Pairs) → ShowsFirst fr.pairs p.1 (Some p.0) → p.0.theirs ≡ None → outcome m (fr ∷ frs) ≡ Some false
+alone_shown m fr frs p a e = let l = left_rest fr.pairs p.1 (Some p.0) a in alone m fr frs (p.0, l.rest) l.taken e
 
 -- the walk at its beginning
 pub begun : (m : Meaning) (fr : Frame) (stack : List Frame) (a : Option Bool) → stack ≡ [] → levels fr.pairs < 16 → a ≡ frame_answer m 15 fr → (outcome m (fr ∷ stack) ≡ a) × AreLow (fr ∷ stack)

@@ -1,6 +1,7 @@
 pub mod Stacks
 pub mod Searches
 pub mod Meetings
+pub mod Rests
 pub mod HeadLaws
 pub mod EqualWalks
 pub mod CompareWalks

@@ -1,8 +1,9 @@
 -- The pairs that are left of two rows of children.
-use Rattle.std.specs.Prelude.{◌≡◌, ℕ, ◌+◌, ◌*◌, ◌≤◌, max, Bool, true, false, List, [], ◌∷◌, drop, Some, None, Option, option_map, IfSome, MatchOption}
+use Rattle.std.specs.Prelude.{◌≡◌, ℕ, ◌+◌, ◌*◌, ◌≤◌, max, Bool, true, false, List, [], ◌∷◌, drop, Some, None, Option, option_map, is_none, if◌then◌else◌, IfSome, MatchOption}
 use Rattle.trees.specs.Name.{Name, distinct}
 use Rattle.trees.specs.declared.head.Head.{Head}
 use Rattle.trees.specs.Tree.{Tree, Forest, empty, more, labels, named, under, size, sizes, height, heights}
+use Rattle.cells.specs.Reading.{behind}
 use Rattle.cells.specs.Views.{tree, forest}
 use Rattle.cells.specs.declared.views.Kids.{Kids}
 use Rattle.cells.specs.declared.views.Node.{Node}
@@ -73,13 +74,31 @@ pub record PairAndRest (old : Pairs) (p : Pair × Pairs) : Type 0 where
   pub low : levels p.1 ≤ levels old
   pub met : IfSome p.0.theirs (λ y. Meets old p.1 (tree p.0.ours) (tree y))
 
+-- the first pair is taken away, if there is one
+abbrev pub TakesFirst : Pairs → Pairs → Option Pair → Type 0
+TakesFirst old new None = pairs old ≡ []
+TakesFirst old new (Some pair) = PairAndRest old (pair, new)
+
 -- the first child has no partner, and all are left as they were
 pub record IsAlone (old new : Pairs) (child : Node) : Type 0 where
   pub split : pairs old ≡ (tree child, None) ∷ drop 1 (pairs old)
   pub kept : new ≡ old
 
--- the first pair is taken away, if there is one
-abbrev pub TakesFirst : Pairs → Pairs → Option Pair → Type 0
-TakesFirst old new None = pairs old ≡ []
-TakesFirst old new (Some pair) =
+-- the first pair is shown, if there is one: it is taken away if it has a partner, and left if not
+abbrev pub ShowsFirst : Pairs → Pairs → Option Pair → Type 0
+ShowsFirst old new None = pairs old ≡ []
+ShowsFirst old new (Some pair) =
     MatchOption pair.theirs (IsAlone old new pair.ours) (λ partner. PairAndRest old (pair, new))
+
+-- a child that has no partner
+abbrev pub is_lone : Option Pair → Bool
+is_lone None = false
+is_lone (Some pair) = is_none pair.theirs
+
+-- the first pair is taken away once a child that has no partner is passed over as well
+pub record LeavesRest (old new : Pairs) (a : Option Pair) : Type 0 where
+  pub rest : Pairs
+  pub taken : TakesFirst old rest a
+  pub ours : forest rest.ours
+      ≡ (if is_lone a then behind 1 (forest new.ours) else forest new.ours)
+  pub theirs : rest.theirs ≡ new.theirs

@@ -89,13 +89,14 @@ pub struct Pair<'a> {
 }
 
 impl<'a> Pairs<'a> {
-    ghost use Rattle.walks.specs.Pairs.{TakesFirst};
+    ghost use Rattle.walks.specs.Pairs.{ShowsFirst, LeavesRest};
 
     /// The first pair, which is taken away. By place, the shorter row decides how many there are.
     /// Where the first child has no partner nothing is taken, and the child is not gone through.
     #[inline(always)]
     pub fn next(&mut self) -> Option<Pair<'a>>
-        ensures { TakesFirst self.old self.new result }
+        ensures shows { ShowsFirst self.old self.new result }
+        ensures rest { LeavesRest self.old self.new result }
     {
         let child = self.ours.first()?;
         match self.theirs {
@@ -124,5 +125,54 @@ impl<'a> Pairs<'a> {
                 }),
             },
         }
+    }
+}
+
+#[cfg(test)]
+mod tests {
+    use super::*;
+    use cells::Cell;
+    use std::test::Fail;
+
+    #[test]
+    fn shown(rt: HostRuntime) -> Result<(), Fail> {
+        let cells = [Cell::VACANT, Cell::VACANT];
+        let two = Kids {
+            cells: &cells,
+            count: 2,
+        };
+        let one = Kids {
+            cells: two.cells,
+            count: 1,
+        };
+        let mut by_place = Pairs {
+            ours: two,
+            theirs: Partners::ByPlace(one),
+        };
+        match by_place.next() {
+            Some(pair) => assert!(rt; pair.theirs.is_some()),
+            None => return Err(Fail::new("two children by place, and no pair")),
+        }
+        assert_eq!(rt; by_place.ours.len(), 1);
+        assert!(rt; by_place.next().is_none());
+        let mut by_name = Pairs {
+            ours: two,
+            theirs: Partners::ByName(Fields::new(one)),
+        };
+        match by_name.next() {
+            Some(pair) => assert!(rt; pair.theirs.is_some()),
+            None => return Err(Fail::new("two children by name, and no pair")),
+        }
+        assert_eq!(rt; by_name.ours.len(), 1);
+        let mut lone = Pairs {
+            ours: two,
+            theirs: Partners::ByName(Fields::new(Kids::default())),
+        };
+        match lone.next() {
+            Some(pair) => assert!(rt; pair.theirs.is_none()),
+            None => return Err(Fail::new("a child without a partner, and no pair")),
+        }
+        assert_eq!(rt; lone.ours.len(), 2);
+        Ok(())
     }
 }
